@@ -1,0 +1,9 @@
+mod Bitmap
+mod Marks
+mod Paddings
+mod Trailers
+mod Writes
+mod Packets
+mod Questions
+mod Trips
+mod Areas

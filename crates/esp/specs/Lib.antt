@@ -1,0 +1,9 @@
+pub mod Asking
+pub mod Window
+pub mod Numbers
+pub mod Faults
+pub mod Packet
+pub mod Sealing
+pub mod Reading
+pub mod Opening
+pub mod Figures

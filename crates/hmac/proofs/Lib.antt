@@ -1,0 +1,6 @@
+mod Blocks
+mod Outputs
+mod Rotations
+mod Schedules
+mod Tables
+mod Turns

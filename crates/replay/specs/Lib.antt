@@ -1,0 +1,3 @@
+pub mod Product
+pub mod Packets
+pub mod Replies
