@@ -1,5 +1,4 @@
 -- Figures worked out by hand, for the definitions to agree with.
-use Prim.Native.Nat.{ℕ}
 use Rattle.esp.specs.Numbers.{mayPass}
 use Rattle.esp.specs.Packet.{sealedLength}
 use Rattle.std.specs.declared.option.Option.the-variants.{None, Some}

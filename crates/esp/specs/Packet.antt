@@ -4,7 +4,7 @@
 --     0     4        8                                              n-14         n-13          n-12      n
 --     | SPI | number | segment, 8 to 1400 bytes | padding 1, 2, ..  | pad length | next header | tag, 12 |
 --     |<------------------- what the tag covers ------------------------------------------->|
-use Prim.Native.Nat.{ℕ, _+_, _-_, _*_, _/_, _%_, _≤_}
+use Prim.Native.Nat.{ℕ, _+_, _-_, _/_, _%_, _≤_}
 use Rattle.std.specs.Iters.{counting}
 use Rattle.std.specs.declared.option.Option.{Option}
 use Rattle.std.specs.declared.option.Option.the-variants.{None, Some}

@@ -1,5 +1,5 @@
 -- MD5 in the order of RFC 1321, clause 3.
-use Prim.Native.Nat.{ℕ, zero, suc, _+_, _-_, _*_, _/_, _%_, _^_}
+use Prim.Native.Nat.{ℕ, zero, suc, _+_, _*_}
 use Rattle.hmac.specs.Digest.{chained}
 use Rattle.hmac.specs.Words.{add32, not32, rotl, lowFirst, lowBytes, lowCount}
 use Rattle.hmac.specs.declared.rfc1321.Abcd.{Abcd}

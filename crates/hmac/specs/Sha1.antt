@@ -1,5 +1,5 @@
 -- SHA-1 in the order of FIPS 180-4: clauses 4.1.1, 4.2.1, 5.3.1 and 6.1.2.
-use Prim.Native.Nat.{ℕ, zero, suc, _+_, _-_, _*_, _/_, _%_, _^_}
+use Prim.Native.Nat.{ℕ, zero, suc, _+_, _-_, _*_}
 use Rattle.hmac.specs.Digest.{chained}
 use Rattle.hmac.specs.Words.{add32, not32, rotl, highFirst, highBytes, highCount}
 use Rattle.hmac.specs.declared.fips180.Working.{Working}

@@ -1,8 +1,8 @@
 // The integrity algorithms of TS 33.203: HMAC cut to 96 bits, over the first 4096 bytes of a text.
-ghost use Prim.Native.Nat.{ℕ, _-_, _≤_};
+ghost use Prim.Native.Nat.{_-_, _≤_};
 ghost use Rattle.hmac.specs.Algorithms.{hmacMd5Tag, hmacSha1Tag};
 ghost use Rattle.hmac.specs.Hmac.{hmacOf};
-ghost use lib.ListN.{length, replicate, take};
+ghost use lib.ListN.{replicate, take};
 ghost use mathlib.Core.List.{_++_};
 ghost use mathlib.Core.Path.{_≡_};
 use crate::chaining::Digest;

@@ -1,9 +1,9 @@
 // What every digest with blocks of 64 bytes shares: padding, the blocks in turn, the chaining state.
-ghost use Prim.Native.Nat.{ℕ, _+_, _-_, _*_, _/_, _%_, _^_, _<_, _≤_};
+ghost use Prim.Native.Nat.{ℕ, _+_, _-_, _*_, _%_, _^_, _<_, _≤_};
 ghost use Rattle.hmac.specs.Digest.{blocks, chained, padding};
 ghost use Rattle.std.specs.Iters.{folded};
 ghost use lib.ListN.{length, replicate};
-ghost use mathlib.Core.List.{List, [], _++_, _∷_};
+ghost use mathlib.Core.List.{List, _++_};
 ghost use mathlib.Core.Path.{_≡_};
 
 // How many bytes a block has: B of RFC 2104.

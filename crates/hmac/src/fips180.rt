@@ -1,8 +1,6 @@
 // SHA-1 (FIPS 180-4).
-ghost use Prim.Native.Nat.{ℕ, _+_, _-_, _*_, _/_, _%_, _^_, _<_, _≤_};
-ghost use Rattle.hmac.specs.Sha1.{compressed, constant, function, initial, output, rounds, schedule, sha1};
-ghost use Rattle.hmac.specs.Words.{highBytes, highCount};
-ghost use lib.ListN.{getD, length};
+ghost use Rattle.hmac.specs.Sha1.{compressed, constant, function, initial, output, schedule, sha1};
+ghost use Rattle.hmac.specs.Words.{highCount};
 ghost use mathlib.Core.Path.{_≡_};
 use crate::chaining::Digest;
 

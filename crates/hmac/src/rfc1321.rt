@@ -1,8 +1,6 @@
 // MD5 (RFC 1321).
-ghost use Prim.Native.Nat.{ℕ, _+_, _-_, _*_, _/_, _%_, _^_, _<_, _≤_};
-ghost use Rattle.hmac.specs.Md5.{auxiliary, compressed, initial, md5, output, picks, turns, words};
-ghost use Rattle.hmac.specs.Words.{lowBytes, lowCount};
-ghost use lib.ListN.{getD, length};
+ghost use Rattle.hmac.specs.Md5.{auxiliary, compressed, initial, md5, output, words};
+ghost use Rattle.hmac.specs.Words.{lowCount};
 ghost use mathlib.Core.Path.{_≡_};
 use crate::chaining::Digest;
 

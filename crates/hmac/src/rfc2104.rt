@@ -1,5 +1,5 @@
 // HMAC (RFC 2104), once for every digest.
-ghost use Prim.Native.Nat.{ℕ, _≤_};
+ghost use Prim.Native.Nat.{_≤_};
 ghost use Rattle.hmac.specs.Hmac.{hmacOf, keyed};
 ghost use lib.ListN.{length};
 ghost use mathlib.Core.List.{_++_};

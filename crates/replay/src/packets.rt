@@ -1,5 +1,5 @@
 // Packets as a script gives them.
-ghost use Prim.Native.Nat.{ℕ, _-_, _≤_};
+ghost use Prim.Native.Nat.{_-_, _≤_};
 ghost use Rattle.esp.specs.Sealing.{sealing};
 ghost use Rattle.replay.specs.Packets.{flipped, packetBytes, sourceBytes};
 ghost use Rattle.replay.specs.Product.{macOf};
@@ -7,7 +7,7 @@ ghost use Rattle.script.specs.Packets.{packetBy, sourceBy};
 ghost use Rattle.std.specs.Of.Vec.{vec-items};
 ghost use Rattle.std.specs.Vec.{made};
 ghost use Rattle.std.specs.declared.option.Option.the-variants.{Some};
-ghost use lib.ListN.{length, take};
+ghost use lib.ListN.{take};
 ghost use mathlib.Core.Path.{_≡_};
 use crate::product;
 use esp::Fault;

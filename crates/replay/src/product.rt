@@ -1,5 +1,4 @@
 // The packet layer over the product's algorithms: 1 is HMAC-MD5-96, 2 is HMAC-SHA-1-96.
-ghost use Prim.Native.Nat.{ℕ};
 ghost use Rattle.esp.specs.Opening.{opening, shown};
 ghost use Rattle.esp.specs.Sealing.{laid, sealing};
 ghost use Rattle.replay.specs.Product.{macOf};

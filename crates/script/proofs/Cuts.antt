@@ -1,17 +1,16 @@
 -- How a text falls into pieces.
-use Prim.Native.Nat.{ℕ, suc, _+_, _<_, _≤_}
+use Prim.Native.Nat.{ℕ, suc, _+_, _<_}
 use Rattle.script.specs.Fields.{after, before, kept, left, markOf, onto, pieces, takes}
-use Rattle.std.proofs.shelf.Lists.{append-assoc, append-nil, at-drop-all, at-drop-more, take-all, take-more}
+use Rattle.std.proofs.shelf.Lists.{append-assoc, append-nil, at-drop-more, take-more}
 use Rattle.script.specs.declared.fields.Separator.{Separator}
 use Rattle.std.specs.Options.{mapped}
 use Rattle.std.specs.declared.option.Option.{Option}
 use Rattle.std.specs.declared.option.Option.the-variants.{None, Some}
-use borrow.Author.Needs.{needs}
 use borrow.Author.Tests.{eq-eqb, ne-eqb}
 use denote.Ref.{RefT}
 use lib.Dec.{eqb}
 use lib.ListN.{drop, getD, length, take}
-use mathlib.Core.Bool.{Bool, true, false, cond}
+use mathlib.Core.Bool.{true, false, cond}
 use mathlib.Core.List.{List, [], _∷_, _++_}
 use mathlib.Core.Path.{_≡_, refl, sym, ap, _∙_}
 use native.Mathlib.Omega.{arith}

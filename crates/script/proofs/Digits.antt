@@ -3,7 +3,7 @@ use Prim.Native.Nat.{ℕ, _+_, _-_, _*_, _^_, _≤_, _<_}
 use Rattle.script.specs.Decimal.{longer, numberOf, valueAfter}
 use Rattle.std.proofs.shelf.Decimals.{decimal-some, digits-decimal, value-decimal}
 use Rattle.std.proofs.shelf.Lists.{at-drop-more}
-use Rattle.std.proofs.shelf.Numerals.{Numerals, numerals-by-fold, tells-allDigits}
+use Rattle.std.proofs.shelf.Numerals.{Numerals, numerals-by-fold}
 use Rattle.std.specs.Options.{Cases}
 use Rattle.std.specs.Text.{asciiDigit}
 use Rattle.std.specs.Written.{decimal}

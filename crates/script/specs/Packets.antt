@@ -1,11 +1,11 @@
 -- A packet in a script: bytes, or what sealing makes of a segment, with a bit flipped or not.
 --
 --     HEX    seal:ALG:IK:SPI:SEQ:SEGMENT    either with ^OFFSET behind it
-use Prim.Native.Nat.{ℕ, _+_}
+use Prim.Native.Nat.{ℕ}
 use Rattle.esp.specs.Packet.{sealedLength, segmentRight}
 use Rattle.script.specs.Fields.{after, before, split}
 use Rattle.script.specs.Hex.{bytesOf}
-use Rattle.script.specs.Words.{algorithmOf, andThen, ended, field, firstAs, ikOf, number32}
+use Rattle.script.specs.Words.{algorithmOf, andThen, ended, field, ikOf, number32}
 use Rattle.script.specs.declared.fields.Separator.the-variants.{Colon}
 use Rattle.script.specs.declared.packet.Packet.{Packet}
 use Rattle.script.specs.declared.packet.Source.{Source}
@@ -18,7 +18,7 @@ use lib.Chars.{codes}
 use lib.Dec.{ltb}
 use lib.ListN.{length}
 use mathlib.Core.Bool.{cond}
-use mathlib.Core.List.{List, [], _∷_}
+use mathlib.Core.List.{List}
 
 -- a sequence number that a packet may carry: at least 1
 abbrev pub sequenceOf : List ℕ → Option ℕ

@@ -1,10 +1,8 @@
 // The fields of a line, one after another.
-ghost use Prim.Native.Nat.{ℕ, _<_};
+ghost use Prim.Native.Nat.{_<_};
 ghost use Rattle.script.specs.Fields.{after, before, fieldsOf, first, markOf, others, split, takes};
 ghost use Rattle.std.specs.Options.{mapped};
 ghost use Rattle.std.specs.shelf.Text.{sameBytes};
-ghost use lib.ListN.{length};
-ghost use mathlib.Core.List.{List};
 ghost use mathlib.Core.Path.{_≡_};
 
 // What stands between fields.

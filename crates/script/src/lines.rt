@@ -1,5 +1,4 @@
 // Reading a line of a script.
-ghost use Prim.Native.Nat.{ℕ};
 ghost use Rattle.script.specs.Fields.{fieldsOf};
 ghost use Rattle.script.specs.Lines.{bodyOf, callOf, isComment, lineBy, lineOf, sealLine, tagLine, unsealLine, windowLine};
 ghost use Rattle.script.specs.Reads.{Says};

@@ -1,5 +1,4 @@
 // Reading a packet of a script.
-ghost use Prim.Native.Nat.{ℕ};
 ghost use Rattle.script.specs.Fields.{fieldsOf, others};
 ghost use Rattle.script.specs.Packets.{lengthOf, packetBy, packetOf, sealedBy, segmentOf, sequenceOf, sourceBy, sourceOf};
 ghost use Rattle.script.specs.Reads.{Says};

@@ -1,5 +1,4 @@
 // Fields by their kinds.
-ghost use Prim.Native.Nat.{ℕ};
 ghost use Rattle.script.specs.Fields.{fieldsOf, others};
 ghost use Rattle.script.specs.Hex.{bytesOf};
 ghost use Rattle.script.specs.Reads.{Says};

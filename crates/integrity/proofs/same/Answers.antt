@@ -1,10 +1,10 @@
-use Prim.Native.Nat.{ℕ, _<_}
+use Prim.Native.Nat.{ℕ}
 use Rattle.integrity.proofs.Differences.{or-none-l, or-none-r, same-by, xor-none}
 use Rattle.integrity.proofs.same.Needs as need
 use Rattle.std.proofs.shelf.Lists.{ext-getD}
 use borrow.Author.Count.{below-more}
 use borrow.Author.Tests.{eq-eqb, eqb-true}
-use lib.Bits.{bitOr, bitXor, xor-self}
+use lib.Bits.{bitXor, xor-self}
 use lib.ListN.{getD, length}
 use mathlib.Core.Bool.{true, false}
 use mathlib.Core.Path.{_≡_, ap, sym, _∙_}

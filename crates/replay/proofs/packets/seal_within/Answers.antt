@@ -1,5 +1,5 @@
 use Prim.Native.Nat.{ℕ, _-_, min}
-use Rattle.esp.specs.Sealing.{Sealing, laid, sealing}
+use Rattle.esp.specs.Sealing.{Sealing, laid}
 use Rattle.replay.proofs.Rooms.{front-of, room-enough}
 use Rattle.replay.proofs.packets.seal_within.Needs as need
 use Rattle.replay.specs.Product.{macOf}

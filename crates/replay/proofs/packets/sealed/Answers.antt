@@ -2,8 +2,6 @@ use Prim.Native.Nat.{_-_}
 use Rattle.replay.proofs.Rooms.{refused-writes-nothing}
 use Rattle.replay.proofs.packets.sealed.Needs as need
 use Rattle.replay.specs.Product.{macOf}
-use mathlib.Core.Path.{sym, ap, _∙_}
-use borrow.Author.Needs.{needs}
 
 pub returns-in-Err : need.returns-in-Err
 returns-in-Err c =

@@ -4,7 +4,7 @@ use Rattle.script.specs.Decimal.{longer}
 use Rattle.std.proofs.shelf.Lists.{at-drop-all}
 use Rattle.std.specs.declared.option.Option.the-variants.{None, Some}
 use lib.ListN.{getD}
-use mathlib.Core.Path.{_≡_, ap, sym, _∙_}
+use mathlib.Core.Path.{_≡_, sym, _∙_}
 
 pub returns-in-Break-number : need.returns-in-Break-number
 returns-in-Break-number c h =

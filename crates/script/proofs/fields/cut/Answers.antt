@@ -2,9 +2,9 @@ use Rattle.script.proofs.Cuts.{after-here, after-more, before-here, before-mor
 use Rattle.script.proofs.fields.cut.Needs as need
 use Rattle.script.specs.Fields.{after, before}
 use Rattle.std.proofs.shelf.Lists.{append-nil, at-drop-all, take-all}
-use Rattle.std.specs.declared.option.Option.the-variants.{None, Some}
-use lib.ListN.{drop, take}
-use mathlib.Core.List.{[], _++_}
+use Rattle.std.specs.declared.option.Option.the-variants.{Some}
+use lib.ListN.{take}
+use mathlib.Core.List.{_++_}
 use mathlib.Core.Path.{_≡_, ap, sym, _∙_}
 use native.Mathlib.Omega.{arith}
 use Prim.Native.Nat.{ℕ, _-_}

@@ -1,14 +1,13 @@
 use Rattle.script.proofs.Pairs.{bytes-dash, bytes-none, bytes-pairs, says-back}
 use Rattle.script.proofs.hex.read_bytes.Needs as need
-use Rattle.script.specs.Hex.{bytesOf}
 use Rattle.script.specs.Reads.{Says}
 use Rattle.script.specs.declared.refusal.Refusal.the-variants.{BadLine}
 use Rattle.std.specs.Of.Vec.{vec-items}
-use Rattle.std.specs.declared.option.Option.the-variants.{None, Some}
+use Rattle.std.specs.declared.option.Option.the-variants.{Some}
 use Rattle.std.specs.declared.result.Result.the-variants.{Err, Ok}
 use Rattle.std.specs.declared.alloc.Global.{Global}
 use borrow.Author.Tests.{false-eqb, true-eqb}
-use mathlib.Core.Path.{_≡_, ap, sym, subst, _∙_}
+use mathlib.Core.Path.{ap, sym, subst, _∙_}
 use native.Mathlib.Omega.{arith}
 
 pub returns-then-is-text : need.returns-then-is-text

@@ -1,10 +1,8 @@
-use Prim.Native.Nat.{ℕ, _<_}
-use Rattle.script.proofs.Cuts.{fields-cut, room}
+use Rattle.script.proofs.Cuts.{fields-cut}
 use Rattle.script.proofs.fields.Fields.next.Needs as need
-use Rattle.script.specs.Fields.{fieldsOf, first, left, others, takes}
-use Rattle.std.specs.declared.option.Option.the-variants.{None, Some}
-use mathlib.Core.Bool.{Bool, true, false, cond}
-use mathlib.Core.List.{List, _∷_}
+use Rattle.script.specs.Fields.{fieldsOf, first, left, others}
+use mathlib.Core.Bool.{Bool, cond}
+use mathlib.Core.List.{_∷_}
 use mathlib.Core.Path.{_≡_, ap, sym, _∙_}
 
 pub returns-then-takes : need.returns-then-takes

@@ -1,4 +1,3 @@
-use Prim.Native.Nat.{ℕ, _+_}
 use Rattle.script.proofs.fields.Fields.next.Given as given
 use Rattle.script.specs.Fields.{fieldsOf}
 use Rattle.script.proofs.Cuts.{room}
