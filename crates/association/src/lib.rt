@@ -1,5 +1,7 @@
 // A set of associations: one inbound and one outbound, made together in one registration (TS 33.203, clause 7.1).
 // What a set is, what it seals and opens, and why it refuses.
+#![tactic(auto)]
+
 mod address;
 mod algorithm;
 mod faults;

@@ -1,4 +1,6 @@
 // Reading the script lines that call the proxy, and lines of the whole grammar.
+#![tactic(auto)]
+
 mod addresses;
 mod line;
 mod lines;

@@ -1,5 +1,7 @@
 // ESP packets with integrity only (RFC 2406), over any integrity algorithm: sealing a UDP segment into a
 // packet, opening one again, and the replay window that lets each packet in once.
+#![tactic(auto)]
+
 mod faults;
 mod layout;
 mod opening;

@@ -1,4 +1,6 @@
 // Digests with blocks of 64 bytes, HMAC over any of them, and the two integrity algorithms of TS 33.203.
+#![tactic(auto)]
+
 mod algorithms;
 mod chaining;
 mod fips180;

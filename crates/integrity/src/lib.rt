@@ -2,6 +2,8 @@
 //
 // Whoever seals, opens or keeps associations knows an algorithm by this interface alone. An algorithm is
 // a type without a value of its own: it keeps nothing from call to call and comes in as a type parameter.
+#![tactic(auto)]
+
 ghost use Rattle.std.specs.Prelude.{◌≡◌, ℕ, List, length, take};
 ghost use Rattle.std.specs.Str.{bytes_eq};
 

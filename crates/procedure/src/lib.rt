@@ -1,5 +1,7 @@
 // What a registration is made of (TS 33.203, clauses 7.1 to 7.4): the handset's offer, the proxy's choice, the stages, the
 // messages and outcomes that the host reports, what a segment goes by, and why a call is refused.
+#![tactic(auto)]
+
 mod carrier;
 mod chosen;
 mod faults;

@@ -1,5 +1,7 @@
 // The proxy over the rows that a host lends: opening it, and its calls. Whatever the host hands over, a call answers
 // or is refused with a number and a place.
+#![tactic(auto)]
+
 mod calls;
 mod opening;
 mod proxy;

@@ -1,6 +1,8 @@
 // Replays a script of calls: one call a line on standard input, one answer a line on standard output.
 //
 // Each answer is written out before the next line is waited for, and no more than one line is held at a time.
+#![tactic(auto)]
+
 mod algorithms;
 mod answers;
 mod next;

@@ -1,4 +1,6 @@
 // Scripts of calls: reading a line, and printing an answer.
+#![tactic(auto)]
+
 mod algorithm;
 mod answer;
 mod decimal;

@@ -4,6 +4,8 @@
 // A registration makes a new set while the set before it still carries traffic, so that there are up to three:
 //
 //     registration --success--> current --success under it--> old
+#![tactic(auto)]
+
 mod cover;
 mod expiring;
 mod slot;

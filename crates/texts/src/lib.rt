@@ -1,4 +1,6 @@
 // The text of each answer of a call.
+#![tactic(auto)]
+
 mod call;
 mod name;
 

@@ -1,6 +1,8 @@
 // Runs the published examples of MD5, SHA-1 and HMAC, and prints each with `ok` or what differed.
 //
 // MD5: RFC 1321, appendix A.5. SHA-1: the examples published with FIPS 180. HMAC: RFC 2202.
+#![tactic(auto)]
+
 use hmac::{Digest, Md5, Sha1};
 use script::Hex;
 use std::alloc::{AllocError, Global};

@@ -1,4 +1,6 @@
 // Runs a registration that was worked out by hand, and prints each call with `ok` or what differed.
+#![tactic(auto)]
+
 use procedure::{Chosen, Fault, Offer, Sent};
 use product::Pcscf;
 use registration::Row;
