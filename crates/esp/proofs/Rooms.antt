@@ -1,7 +1,6 @@
 -- Sealing into areas of several lengths: no packet needs more than the longest, and what was written stands at the front.
 use Rattle.std.proofs.Common.{◌≡◌, ℕ, ◌+◌, ◌-◌, ◌<◌, ◌≤◌, min, Bool, true, false, ltb, leb, List, [], ◌++◌, length, take, drop, IfOk, Ok, Err, Result, sym, refl, ap, ◌∙◌, ⊎_elim, arith, le-leb}
 use Rattle.esp.proofs.Areas.{sealed_joined, sealed_long}
-use Rattle.esp.proofs.Asks.{ask_both}
 use Rattle.esp.specs.Asking.{ask}
 use Rattle.esp.specs.Packet.{covered, pad_count, sealed, segment_right}
 use Rattle.esp.specs.Sealing.{Sealing, laid, refused_at, sealing}
@@ -15,11 +14,19 @@ use borrow.Rule.Slice.PartMut.{mid_of, post_of, put_mid}
 nothing : (a b c : Bool) (f g h : Fault) (count : ℕ) (s : Sealing) (e : Fault) → (n : ℕ) → s.result ≡ Ok n
     → Err e ≡ (ask a (refused_at count f) (ask b (refused_at count g) (ask c (refused_at count h) s))).result
     → (ask a (refused_at count f) (ask b (refused_at count g) (ask c (refused_at count h) s))).written ≡ []
-unfolding ask
 nothing false b c f g h count s e n ok is = refl
 nothing true false c f g h count s e n ok is = refl
 nothing true true false f g h count s e n ok is = refl
 nothing true true true f g h count s e n ok is = let z : ◌≡◌ {A = ℕ} 0 1 = cc in absurd (omega arith)
+
+-- a refusal counts nothing
+counted_by : (a b c : Bool) (f g h : Fault) (count : ℕ) (s : Sealing) → IfOk s.result (λ n. n ≡ length s.written)
+    → IfOk (ask a (refused_at count f) (ask b (refused_at count g) (ask c (refused_at count h) s))).result
+    (λ n. n ≡ length (ask a (refused_at count f) (ask b (refused_at count g) (ask c (refused_at count h) s))).written)
+counted_by false b c f g h count s p = tt
+counted_by true false c f g h count s p = tt
+counted_by true true false f g h count s p = tt
+counted_by true true true f g h count s p = p
 
 longest : (n : ℕ) → segment_right n ≡ true → n + pad_count n + 22 ≤ 1424
 longest n e = let h : n ≤ 1400 = grind arith in omega arith
@@ -27,7 +34,7 @@ longest n e = let h : n ≤ 1400 = grind arith in omega arith
 module _ (mac : List ℕ → List ℕ → List ℕ) (ik : List ℕ) (spi counter : ℕ) (segment : List ℕ) where
   pub refused_writes_nothing : (room : ℕ) (e : Fault) → Err e ≡ (sealing mac ik spi counter segment room).result
       → (sealing mac ik spi counter segment room).written ≡ []
-  unfolding sealing ask
+  unfolding sealing
   refused_writes_nothing room e is =
       nothing (segment_right (length segment)) (ltb counter 4294967295) (leb (length segment + pad_count (length segment) + 22) room)
       (SegmentLength (length segment)) CounterSpent (AreaLength room) counter
@@ -37,7 +44,7 @@ module _ (mac : List ℕ → List ℕ → List ℕ) (ik : List ℕ) (spi counter
   -- no packet needs more room than the longest
   pub room_enough : (area room : ℕ) → room ≡ min 1424 area
       → sealing mac ik spi counter segment room ≡ sealing mac ik spi counter segment area
-  unfolding sealing ask
+  unfolding sealing
   room_enough area room e =
       same (segment_right (length segment)) (ltb counter 4294967295) refl
     where
@@ -71,9 +78,10 @@ module _ (mac : List ℕ → List ℕ → List ℕ) (ik : List ℕ) (spi counter
       → IfOk (sealing mac ik spi counter segment room).result (λ n. n ≡ length (sealing mac ik spi counter segment room).written)
   unfolding sealing
   counted twelve room =
-      let F : Sealing → Type 0 = λ s. IfOk s.result (λ n. n ≡ length s.written) in
-      ask_both F _ _ _ tt (λ _. ask_both F _ _ _ tt (λ _. ask_both F _ _ _ tt
-      (λ _. sym (sealed_long mac ik spi (counter + 1) segment twelve) ∙ ap length (sealed_joined mac ik spi (counter + 1) segment twelve))))
+      counted_by (segment_right (length segment)) (ltb counter 4294967295) (leb (length segment + pad_count (length segment) + 22) room)
+      (SegmentLength (length segment)) CounterSpent (AreaLength room) counter
+      (record { result = Ok (length segment + pad_count (length segment) + 22); counter = counter + 1; written = sealed mac ik spi (counter + 1) segment })
+      (sym (sealed_long mac ik spi (counter + 1) segment twelve) ∙ ap length (sealed_joined mac ik spi (counter + 1) segment twelve))
 
 -- what stands at the front of an area of 1424 bytes, of which the first `room` were lent
 pub front_of : {X E : Type 0} (count : X → ℕ) (r : Result X E) (w out part : List ℕ) (room : ℕ) → IfOk r (λ x. count x ≡ length w) → length out ≡ 1424

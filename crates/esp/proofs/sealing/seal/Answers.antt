@@ -7,10 +7,10 @@ use Rattle.esp.proofs.sealing.seal.Goals as goal
 use Rattle.esp.specs.Packet.{covered}
 use Rattle.esp.specs.Sealing.{Sealing, laid}
 
-pub returns-in-default : goal.returns-in-default
-returns-in-default g c =
+pub returns-in_default : goal.returns-in_default
+returns-in_default g c =
     let e = segment_wrong_length g.I.Integrity.mac c.args.ik.now c.args.spi c.args.counter.now c.args.segment.now (length c.args.out.now)
-    (length_wrong (length c.args.segment.now) c.in-default.ensures.value) in
+    (length_wrong (length c.args.segment.now) c.in_default.ensures.value) in
     record {
       result = ap (λ (s : Sealing). s.result) (sym e);
       count = ap (λ (s : Sealing). s.counter) (sym e);
@@ -19,10 +19,10 @@ returns-in-default g c =
       opens = tt;
     }
 
-pub returns-in-default-checked-add : goal.returns-in-default-checked-add
-returns-in-default-checked-add g c =
+pub returns-in_default-checked_add : goal.returns-in_default-checked_add
+returns-in_default-checked_add g c =
     let n = c.args.counter.now in
-    let over : n + 1 < 4294967296 → ⊥ = c.in-default-checked-add.ensures in
+    let over : n + 1 < 4294967296 → ⊥ = c.in_default-checked_add.ensures in
     let e = spent g.I.Integrity.mac c.args.ik.now c.args.spi n c.args.segment.now (length c.args.out.now)
     (length_right (length c.args.segment.now) c.in-Some.len c.in-Some.ensures.value).0 (omega arith) in
     record {
@@ -36,9 +36,9 @@ returns-in-default-checked-add g c =
 pub returns-then-out-len : goal.returns-then-out-len
 returns-then-out-len g c =
     let right = length_right (length c.args.segment.now) c.in-Some.len c.in-Some.ensures.value in
-    let next = c.in-Some-checked-add.ensures in
+    let next = c.in-Some-checked_add.ensures in
     let e = no_space g.I.Integrity.mac c.args.ik.now c.args.spi c.args.counter.now c.args.segment.now (length c.args.out.now)
-    right.0 c.in-Some-checked-add.number c.in-Some.len (omega (arith, next.0)) next.1 right.1 c.if-out-len.true in
+    right.0 c.in-Some-checked_add.number c.in-Some.len (omega (arith, next.0)) next.1 right.1 c.if-out-len.true in
     record {
       result = ap (λ (s : Sealing). s.result) (sym e);
       count = ap (λ (s : Sealing). s.counter) (sym e);
@@ -51,7 +51,7 @@ pub put-requires : goal.put-requires
 put-requires g c =
     let right = length_right (length c.args.segment.now) c.in-Some.len c.in-Some.ensures.value in
     let t : length c.tag-tag.result ≡ 12 = ap length c.tag-tag.ensures ∙ g.met.I.Integrity.twelve _ _ in
-    omega (arith, right.1, t, c.write-covered-end.ensures.end, c.if-out-len.false)
+    omega (arith, right.1, t, c.write_covered-end.ensures.end, c.if-out-len.false)
 
 pub returns : goal.returns
 returns g c =
@@ -60,14 +60,14 @@ returns g c =
     let spi = c.args.spi in
     let segment = c.args.segment.now in
     let out = c.args.out.now in
-    let q = c.in-Some-checked-add.number in
+    let q = c.in-Some-checked_add.number in
     let text = covered spi q segment in
     let twelve = g.met.I.Integrity.twelve ik text in
     let right = length_right (length segment) c.in-Some.len c.in-Some.ensures.value in
-    let next = c.in-Some-checked-add.ensures in
+    let next = c.in-Some-checked_add.ensures in
     let long = length_fit (length segment) right.0 in
-    let s1 = written_by {area = out} text c.write-covered-end.ensures.area (covered_long spi q segment ∙ sym c.write-covered-end.ensures.end) in
-    let few : c.write-covered-end.result ≤ 4096 = omega (arith, c.write-covered-end.ensures.end, long.1) in
+    let s1 = written_by {area = out} text c.write_covered-end.ensures.area (covered_long spi q segment ∙ sym c.write_covered-end.ensures.end) in
+    let few : c.write_covered-end.result ≤ 4096 = omega (arith, c.write_covered-end.ensures.end, long.1) in
     let t : c.tag-tag.result ≡ mac ik text = c.tag-tag.ensures ∙ ap (mac ik) (text_read s1 few) in
     let s2 = grow (mac ik text) s1 t c.put.ensures.after c.put.ensures.next in
     let e = space mac ik spi c.args.counter.now segment (length out) right.0 q c.in-Some.len (omega (arith, next.0)) next.1 right.1 c.if-out-len.false in

@@ -10,11 +10,11 @@ returns c =
     let q = c.args.number in
     let segment = c.args.segment.now in
     let k = pad_count (length segment) in
-    let p = c.pad-len-pads.ensures.value in
-    let s1 = grow (be32 spi) (nothing c.args.out.now) c.to-be-bytes.ensures c.put-end.ensures.after c.put-end.ensures.next in
-    let s2 = grow (be32 q) s1 c.to-be-bytes-2.ensures c.put-end-2.ensures.after c.put-end-2.ensures.next in
+    let p = c.pad_len-pads.ensures.value in
+    let s1 = grow (be32 spi) (nothing c.args.out.now) c.to_be_bytes.ensures c.put-end.ensures.after c.put-end.ensures.next in
+    let s2 = grow (be32 q) s1 c.to_be_bytes-2.ensures c.put-end-2.ensures.after c.put-end-2.ensures.next in
     let s3 = grow segment s2 refl c.put-end-3.ensures.after c.put-end-3.ensures.next in
-    let s4 = grow (padding k) s3 (padding_cut _ c.pad-len-pads.ensures.few ∙ ap padding p) c.put-end-4.ensures.after c.put-end-4.ensures.next in
+    let s4 = grow (padding k) s3 (padding_cut _ c.pad_len-pads.ensures.few ∙ ap padding p) c.put-end-4.ensures.after c.put-end-4.ensures.next in
     let s5 = grow (k ∷ 17 ∷ []) s4 (ap (λ (n : ℕ). n ∷ 17 ∷ []) p) c.put.ensures.after c.put.ensures.next in
     let j = covered_joined spi q segment in
     record { end = sym s5.long ∙ ap length j ∙ covered_long spi q segment; area = laid_by _ s5 j }
