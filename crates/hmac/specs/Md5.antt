@@ -1,5 +1,5 @@
 -- MD5 in the order of RFC 1321, clause 3.
-use Rattle.std.specs.Prelude.{ℕ, zero, suc, ◌+◌, ◌*◌, cond, List, [], ◌∷◌, ◌++◌, map, bit_and, bit_or, bit_xor, nat_lt, slice_index}
+use Rattle.std.specs.Prelude.{ℕ, zero, suc, ◌*◌, cond, List, [], ◌∷◌, ◌++◌, map, bit_and, bit_or, bit_xor, nat_lt, slice_index}
 use Rattle.hmac.specs.Digest.{chained}
 use Rattle.hmac.specs.Words.{add32, not32, rotl, low_first, low_bytes, low_count}
 use Rattle.hmac.specs.declared.rfc1321.Abcd.{Abcd}

@@ -15,5 +15,5 @@ take_min xs n k e =
 pub returns : goal.returns
 returns g c =
     let m = take_min c.args.text.now 4096 (c.min-n.result - 0) (omega (arith, c.min-n.ensures)) in
-    c.copy-from-slice.ensures.after
+    c.copy_from_slice.ensures.after
     ∙ ap (take 12) (c.view.ensures.value ∙ c.hmac-whole.ensures ∙ ap (hmac_of g.D.Digest.hash c.args.key.now) m)

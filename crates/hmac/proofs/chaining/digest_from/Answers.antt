@@ -9,10 +9,10 @@ returns g c =
     let d = g.D.Digest in
     let m = c.args.message.now in
     let n : ℕ = c.args.before + length m in
-    let left : length c.as-chunks.result.1.now ≡ n % 64 = omega (arith, c.as-chunks.ensures.back_len, c.requires) in
+    let left : length c.as_chunks.result.1.now ≡ n % 64 = omega (arith, c.as_chunks.ensures.back_len, c.requires) in
     let low : n % 2 ^ 64 * 8 % 2 ^ 64 ≡ (8 * n) % 2 ^ 64 = omega arith in
     c.finish.ensures
     ∙ ap d.bytes
     (rw (blocks_parts m (padding d.count n))
     (rw (folded_append d.step)
-    (simp (c.close.ensures n left low, c.absorb-all.ensures, c.as-chunks.ensures.front, c.as-chunks.ensures.back))))
+    (simp (c.close.ensures n left low, c.absorb_all.ensures, c.as_chunks.ensures.front, c.as_chunks.ensures.back))))

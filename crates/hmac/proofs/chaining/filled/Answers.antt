@@ -5,4 +5,4 @@ use Rattle.hmac.proofs.chaining.filled.Goals as goal
 pub returns : goal.returns
 returns c =
     let z : length c.args.bytes.now - 0 ≡ length c.args.bytes.now = omega arith in
-    simp (drop-replicate, c.copy-from-slice.ensures.after, z)
+    simp (drop-replicate, c.copy_from_slice.ensures.after, z)

@@ -12,7 +12,7 @@ pub loop-t-preserved : goal.loop-t-preserved
 unfolding rotl round rounds
 loop-t-preserved c =
     let ws = schedule c.args.block.now in
-    simp (c.rotate-left.ensures, c.mix.ensures, c.constant-of.ensures, c.rotate-left-c.ensures, c.expand-w.ensures)
+    simp (c.rotate_left.ensures, c.mix.ensures, c.constant_of.ensures, c.rotate_left-c.ensures, c.expand-w.ensures)
     (turn_more (λ k. rounds k ws c.args.hash) (λ k. round k ws) (λ k. refl) c.loop-t.t _ c.loop-t.invariant)
 
 pub returns : goal.returns

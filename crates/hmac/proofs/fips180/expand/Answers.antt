@@ -9,7 +9,7 @@ use Rattle.hmac.proofs.fips180.expand.Goals as goal
 pub loop-i-preserved : goal.loop-i-preserved
 loop-i-preserved c = (
   simp length-set c.loop-i.invariant.0,
-  rw c.from-be-bytes.ensures (fill_by_more (λ k. high_first c.args.block.now (4 * k)) c.loop-i.w c.loop-i.i 0 (omega arith) c.loop-i.invariant.1),
+  rw c.from_be_bytes.ensures (fill_by_more (λ k. high_first c.args.block.now (4 * k)) c.loop-i.w c.loop-i.i 0 (omega arith) c.loop-i.invariant.1),
 )
 
 pub loop-j-init : goal.loop-j-init
@@ -23,7 +23,7 @@ pub loop-j-preserved : goal.loop-j-preserved
 unfolding next rotl
 loop-j-preserved c = (
   simp length-set c.loop-j.invariant.0,
-  extended_step c.loop-j.w _ c.loop-j.j c.rotate-left.result (omega arith) (omega arith) c.loop-j.invariant.1 c.rotate-left.ensures,
+  extended_step c.loop-j.w _ c.loop-j.j c.rotate_left.result (omega arith) (omega arith) c.loop-j.invariant.1 c.rotate_left.ensures,
 )
 
 pub returns : goal.returns

@@ -29,8 +29,8 @@ turn_within t h =
     let both = and_parts (ltb 0 n) (ltb n 32) (passes_at (λ x. ltb 0 x && ltb x 32) turns refl t h) in
     rw (reads_at turn turns refl t h) (ltb-true 0 n both.0, ltb-true n 32 both.1)
 
-pub offset-bounds-w-t : goal.offset-bounds-w-t
-offset-bounds-w-t c = omega (arith, pick_below c.loop-t.t c.loop-t-test.true)
+pub offset_bounds-w-t : goal.offset_bounds-w-t
+offset_bounds-w-t c = omega (arith, pick_below c.loop-t.t c.loop-t-test.true)
 
 pub bounds-w-t : goal.bounds-w-t
 bounds-w-t c = pick_below c.loop-t.t c.loop-t-test.true
@@ -46,7 +46,7 @@ loop-t-preserved c =
     let h = c.loop-t-test.true in
     let xs = words c.args.block.now in
     let within = turn_within t h in
-    let turned = c.rotate-left.ensures ∙ rotl_std (turn t) _ within.0 within.1 in
+    let turned = c.rotate_left.ensures ∙ rotl_std (turn t) _ within.0 within.1 in
     simp (turned, c.mix.ensures, c.split-w.ensures, reads_at turn turns refl t h, reads_at pick picks refl t h, reads_at sine sines refl t h)
     (turn_more (λ k. steps k xs c.args.saved) (λ k. step k xs) (λ k. refl) t _ c.loop-t.invariant)
 

@@ -8,7 +8,7 @@ use Rattle.hmac.proofs.rfc1321.split.Goals as goal
 pub loop-i-preserved : goal.loop-i-preserved
 loop-i-preserved c = (
   simp length-set c.loop-i.invariant.0,
-  rw c.from-le-bytes.ensures (fill_by_more (λ k. low_first c.args.block.now (4 * k)) c.loop-i.w c.loop-i.i 0 (omega arith) c.loop-i.invariant.1),
+  rw c.from_le_bytes.ensures (fill_by_more (λ k. low_first c.args.block.now (4 * k)) c.loop-i.w c.loop-i.i 0 (omega arith) c.loop-i.invariant.1),
 )
 
 pub returns : goal.returns

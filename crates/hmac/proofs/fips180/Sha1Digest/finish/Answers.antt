@@ -9,8 +9,8 @@ loop-i-preserved c =
     let s = c.args.state.now in
     let ws : List ℕ = s.a ∷ s.b ∷ s.c ∷ s.d ∷ s.e ∷ [] in (
       search (rules, places),
-      rw c.copy-from-slice.ensures.after
-          (write_more high_bytes (λ x. refl) c.loop-i.out ws c.loop-i.i c.to-be-bytes.result (omega arith) (omega arith) c.loop-i.invariant.1 c.to-be-bytes.ensures),
+      rw c.copy_from_slice.ensures.after
+          (write_more high_bytes (λ x. refl) c.loop-i.out ws c.loop-i.i c.to_be_bytes.result (omega arith) (omega arith) c.loop-i.invariant.1 c.to_be_bytes.ensures),
     )
 
 pub returns : goal.returns
