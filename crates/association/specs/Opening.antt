@@ -5,7 +5,7 @@ use Rattle.association.specs.Ports.{destination_of, source_of}
 use Rattle.association.specs.declared.faults.Fault.{Fault}
 use Rattle.association.specs.declared.faults.Fault.TheVariants.{ArrivingPorts, Packet}
 use Rattle.association.specs.declared.set.Set.{Set}
-use Rattle.esp.specs.Asking.{ask}
+use Rattle.esp.specs.Asking.{asked}
 use Rattle.esp.specs.Opening as packet
 use Rattle.esp.specs.declared.faults.Fault as esp
 use Rattle.esp.specs.declared.segment.Segment.{Segment}
@@ -23,7 +23,7 @@ recorded x w = record { parameters = x.parameters; expiry = x.expiry; sent = x.s
 -- the handset's port sends to the protected one
 abbrev pub ports_asked : Set → ℕ → Result (List ℕ × ℕ) esp.Fault → Result (List ℕ × ℕ) Fault
 ports_asked x port (Ok s) =
-    ask (source_of s.0 == x.parameters.port && destination_of s.0 == port) (Err ArrivingPorts) (Ok s)
+    asked (source_of s.0 == x.parameters.port && destination_of s.0 == port) (Err ArrivingPorts) (Ok s)
 ports_asked x port (Err e) = Err (Packet e)
 
 -- Opening a packet b by a set, and then the question about its ports. Once the tag is right its number is

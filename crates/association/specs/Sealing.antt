@@ -5,7 +5,7 @@ use Rattle.association.specs.Ports.{destination_of}
 use Rattle.association.specs.declared.faults.Fault.{Fault}
 use Rattle.association.specs.declared.faults.Fault.TheVariants.{CounterSpent, Packet, SendingPort}
 use Rattle.association.specs.declared.set.Set.{Set}
-use Rattle.esp.specs.Asking.{ask}
+use Rattle.esp.specs.Asking.{asked}
 use Rattle.esp.specs.Packet.{segment_right}
 use Rattle.esp.specs.Sealing.{Sealing, laid, sealing}
 use Rattle.esp.specs.declared.faults.Fault as esp
@@ -40,9 +40,9 @@ carried x s = record { set = counted x s.counter; result = lifted s.result; writ
 -- destination the handset's port, is there a sequence number left, is there room?
 unfoldable pub sealed_by : Macs → Slot → List ℕ → ℕ → Set → Sealed
 sealed_by m k segment room x =
-    ask (segment_right (length segment)) (refused x (Packet (SegmentLength (length segment))))
-    (ask (destination_of segment == x.parameters.port) (refused x SendingPort)
-    (ask (nat_lt x.sent 4294967295) (refused x (CounterSpent k))
+    asked (segment_right (length segment)) (refused x (Packet (SegmentLength (length segment))))
+    (asked (destination_of segment == x.parameters.port) (refused x SendingPort)
+    (asked (nat_lt x.sent 4294967295) (refused x (CounterSpent k))
     (carried x (sealing (mac_by m x.parameters.algorithm) x.parameters.ik x.parameters.spi x.sent segment room))))
 
 -- what the call leaves: the set, its answer and the area

@@ -7,7 +7,7 @@ use Rattle.association.specs.declared.faults.Fault.TheVariants.{NoSet}
 use Rattle.association.specs.declared.set.Parameters.{Parameters}
 use Rattle.association.specs.declared.set.Set.{Set}
 use Rattle.esp.proofs.Asks.{ask_both, ask_no, ask_yes}
-use Rattle.esp.specs.Asking.{ask}
+use Rattle.esp.specs.Asking.{asked}
 use Rattle.esp.specs.Reading.{packet_right, spi_of}
 use Rattle.proxy.proofs.Owners.{owner_none, owner_one, rows_set}
 use Rattle.proxy.specs.Housing.{Housed, HousedAt, Own}
@@ -214,7 +214,7 @@ module _ (m : Macs) (a : Address) (b : List ℕ) (w : Message) (σ : State) (h :
       rw (l, t))))
 
   nobody : owner (own_is a (spi_of b)) σ.rows ≡ length σ.rows
-      → ask (ltb (owner (own_is a (spi_of b)) σ.rows) (length σ.rows)) nowhere (received_at m a b w (owner (own_is a (spi_of b)) σ.rows) σ) ≡ nowhere
+      → asked (ltb (owner (own_is a (spi_of b)) σ.rows) (length σ.rows)) nowhere (received_at m a b w (owner (own_is a (spi_of b)) σ.rows) σ) ≡ nowhere
   nobody e = ask_no _ nowhere _ (rw e (le-ltb (length σ.rows) (length σ.rows) (omega arith)))
 
   -- a row without the set answers that there is none, and stays
@@ -224,8 +224,8 @@ module _ (m : Macs) (a : Address) (b : List ℕ) (w : Message) (σ : State) (h :
       rw (no_slot (own_is a (spi_of b)) (row_of σ (home_of (spi_of b))) e)
       (ap (λ rows. (record { rows = rows; service = σ.service }, Err (Association NoSet))) (set-get_or σ.rows (home_of (spi_of b)) blank))
 
-  looked_up : ask (homed (spi_of b) σ) nowhere (received_at m a b w (home_of (spi_of b)) σ)
-      ≡ ask (ltb (owner (own_is a (spi_of b)) σ.rows) (length σ.rows)) nowhere (received_at m a b w (owner (own_is a (spi_of b)) σ.rows) σ)
+  looked_up : asked (homed (spi_of b) σ) nowhere (received_at m a b w (home_of (spi_of b)) σ)
+      ≡ asked (ltb (owner (own_is a (spi_of b)) σ.rows) (length σ.rows)) nowhere (received_at m a b w (owner (own_is a (spi_of b)) σ.rows) σ)
   looked_up =
       elim (cases_Bool (homed (spi_of b) σ)) [
         | inl yes_home ↦ elim (cases_Bool (in_row (own_is a (spi_of b)) (row_of σ (home_of (spi_of b))))) [
@@ -235,7 +235,7 @@ module _ (m : Macs) (a : Address) (b : List ℕ) (w : Message) (σ : State) (h :
               let lt : home_of (spi_of b) < length σ.rows
               = omega (arith, count_rows σ, ltb-true (home_of (spi_of b)) (count_of σ) (and_parts (leb 4096 (spi_of b)) (ltb (home_of (spi_of b)) (count_of σ)) yes_home).1) in
               ask_yes _ nowhere _ yes_home
-              ∙ sym (ap (λ k. ask (ltb k (length σ.rows)) nowhere (received_at m a b w k σ)) o
+              ∙ sym (ap (λ k. asked (ltb k (length σ.rows)) nowhere (received_at m a b w k σ)) o
               ∙ ask_yes _ nowhere _ (lt-ltb (home_of (spi_of b)) (length σ.rows) lt))
           | inr gone ↦
               ask_yes _ nowhere _ yes_home ∙ not_there gone
@@ -246,7 +246,7 @@ module _ (m : Macs) (a : Address) (b : List ℕ) (w : Message) (σ : State) (h :
 
 pub arriving_wide_same : (m : Macs) (a : Address) (b : List ℕ) (w : Message) (σ : State) → Housed σ → arriving m a b w σ ≡ arriving_wide m a b w σ
 unfolding arriving arriving_wide
-arriving_wide_same m a b w σ h = ap (λ z. ask (packet_right (length b)) (σ, Err (wrong_length b)) z) (looked_up m a b w σ h)
+arriving_wide_same m a b w σ h = ap (λ z. asked (packet_right (length b)) (σ, Err (wrong_length b)) z) (looked_up m a b w σ h)
 
 -- what holds of the machine's state holds of the proxy's
 pub housed_by : {σ ρ : State} → σ ≡ ρ → Housed ρ → Housed σ

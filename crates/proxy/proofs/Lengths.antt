@@ -4,7 +4,7 @@ use Rattle.association.specs.Algorithms.{Mac, Macs}
 use Rattle.association.specs.declared.algorithm.Algorithm.TheVariants.{One, Two}
 use Rattle.esp.proofs.Asks.{ask_both}
 use Rattle.esp.proofs.Rooms.{front_of}
-use Rattle.esp.specs.Asking.{ask}
+use Rattle.esp.specs.Asking.{asked}
 use Rattle.esp.specs.Sealing.{laid}
 use Rattle.proxy.specs.Machine.{Sending, answered, challenging, concluding, leaves, sending, taken_for}
 use Rattle.proxy.specs.State.{State, count_of, put_row, row_of}
@@ -21,7 +21,7 @@ use borrow.Rule.Slice.PartMut.{mid_of, put_mid}
 -- what a reply makes of the state
 abbrev sent_to : ℕ → State → Reply → Sending
 sent_to s σ p =
-    ask (ltb s (count_of σ)) (record { state = σ; result = Err NoSubscriber; written = [] })
+    asked (ltb s (count_of σ)) (record { state = σ; result = Err NoSubscriber; written = [] })
     (record { state = put_row σ s p.row; result = p.result; written = p.written })
 
 abbrev pub CountedAll : Sending → Type 0

@@ -4,7 +4,7 @@ use Rattle.association.specs.Algorithms.{Macs}
 use Rattle.association.specs.Asked.{Address, own_is, pair_is}
 use Rattle.association.specs.declared.faults.Fault.TheVariants.{NoSet, Packet}
 use Rattle.association.specs.declared.set.Parameters.{Parameters}
-use Rattle.esp.specs.Asking.{ask}
+use Rattle.esp.specs.Asking.{asked}
 use Rattle.esp.specs.Reading.{packet_right, spi_of}
 use Rattle.esp.specs.Sealing.{laid}
 use Rattle.esp.specs.declared.faults.Fault.TheVariants.{PacketLength}
@@ -53,13 +53,13 @@ at_time t v = record { clock = t; port = v.port; algorithms = v.algorithms }
 
 unfoldable pub ticked : ℕ → State → State × Result ℕ Fault
 ticked t σ =
-    ask (time_right t σ) (σ, Err WrongTime)
+    asked (time_right t σ) (σ, Err WrongTime)
     (record { rows = map (aged t) σ.rows; service = at_time t σ.service }, Ok t)
 
 -- a call that names subscriber s works on his row
 abbrev pub on_row : {X : Type 0} → ℕ → (Row → Row × Result X Fault) → State → State × Result X Fault
 on_row s act σ =
-    ask (nat_lt s (count_of σ)) (σ, Err NoSubscriber) (put_row σ s (act (row_of σ s)).0, (act (row_of σ s)).1)
+    asked (nat_lt s (count_of σ)) (σ, Err NoSubscriber) (put_row σ s (act (row_of σ s)).0, (act (row_of σ s)).1)
 
 -- the same for a call that may send: the state after it, its answer, and what was written from the front of the
 -- output area on
@@ -70,7 +70,7 @@ pub record Sending : Type 0 where
 
 abbrev pub sending_on : ℕ → (Row → Reply) → State → Sending
 sending_on s act σ =
-    ask (nat_lt s (count_of σ)) (record { state = σ; result = Err NoSubscriber; written = [] })
+    asked (nat_lt s (count_of σ)) (record { state = σ; result = Err NoSubscriber; written = [] })
     (record {
       state = put_row σ s (act (row_of σ s)).row;
       result = (act (row_of σ s)).result;
@@ -140,8 +140,8 @@ homed spi σ = nat_le 4096 spi && nat_lt (home_of spi) (count_of σ)
 
 unfoldable pub arriving : Macs → Address → List ℕ → Message → State → State × Result Heard Fault
 arriving m a b message σ =
-    ask (packet_right (length b)) (σ, Err (wrong_length b))
-    (ask (homed (spi_of b) σ) (σ, Err (Association NoSet)) (received_at m a b message (home_of (spi_of b)) σ))
+    asked (packet_right (length b)) (σ, Err (wrong_length b))
+    (asked (homed (spi_of b) σ) (σ, Err (Association NoSet)) (received_at m a b message (home_of (spi_of b)) σ))
 
 -- the number of the first row that has a set of which f is true, or the number of rows
 abbrev pub owner : (Parameters → Bool) → List Row → ℕ
@@ -152,6 +152,6 @@ owner f (r ∷ rs) = cond (in_row f r) 0 (suc (owner f rs))
 -- address and proxy's SPI
 unfoldable pub arriving_wide : Macs → Address → List ℕ → Message → State → State × Result Heard Fault
 arriving_wide m a b message σ =
-    ask (packet_right (length b)) (σ, Err (wrong_length b))
-    (ask (nat_lt (owner (own_is a (spi_of b)) σ.rows) (length σ.rows)) (σ, Err (Association NoSet))
+    asked (packet_right (length b)) (σ, Err (wrong_length b))
+    (asked (nat_lt (owner (own_is a (spi_of b)) σ.rows) (length σ.rows)) (σ, Err (Association NoSet))
     (received_at m a b message (owner (own_is a (spi_of b)) σ.rows) σ))

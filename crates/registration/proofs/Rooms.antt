@@ -10,7 +10,7 @@ use Rattle.association.specs.declared.set.Set.{Set}
 use Rattle.association.specs.Ports.{destination_of, source_of}
 use Rattle.esp.proofs.Asks.{ask_both, ask_no, ask_yes}
 use Rattle.esp.proofs.Rooms.{counted, room_enough}
-use Rattle.esp.specs.Asking.{ask}
+use Rattle.esp.specs.Asking.{asked}
 use Rattle.esp.specs.Packet.{segment_right}
 use Rattle.esp.specs.Sealing.{Sealing, sealing}
 use Rattle.esp.specs.declared.faults.Fault as esp
@@ -48,20 +48,20 @@ module _ (area : ℕ) where
   sealed_room : (m : Macs) (k : Slot) (segment : List ℕ) (x : Set) → sealed_by m k segment (min 1424 area) x ≡ sealed_by m k segment area x
   unfolding sealed_by
   sealed_room m k segment x =
-      ap (λ s. ask (segment_right (length segment)) (refused x (Packet (SegmentLength (length segment))))
-      (ask (eqb (destination_of segment) x.parameters.port) (refused x SendingPort)
-      (ask (ltb x.sent 4294967295) (refused x (CounterSpent k)) (carried x s))))
+      ap (λ s. asked (segment_right (length segment)) (refused x (Packet (SegmentLength (length segment))))
+      (asked (eqb (destination_of segment) x.parameters.port) (refused x SendingPort)
+      (asked (ltb x.sent 4294967295) (refused x (CounterSpent k)) (carried x s))))
       (room_enough (mac_by m x.parameters.algorithm) x.parameters.ik x.parameters.spi x.sent segment area (min 1424 area) refl)
 
   -- in clear
   copied_last : (segment : List ℕ) → length segment ≤ 1400
       → ◌≡◌ {A = Result Sent Fault × List ℕ}
-      (ask (leb (length segment) (min 1424 area)) (Err (Association (Packet (AreaLength (min 1424 area)))), []) (Ok (record { bytes = length segment; carrier = carrier.Clear }), segment))
-      (ask (leb (length segment) area) (Err (Association (Packet (AreaLength area))), []) (Ok (record { bytes = length segment; carrier = carrier.Clear }), segment))
+      (asked (leb (length segment) (min 1424 area)) (Err (Association (Packet (AreaLength (min 1424 area)))), []) (Ok (record { bytes = length segment; carrier = carrier.Clear }), segment))
+      (asked (leb (length segment) area) (Err (Association (Packet (AreaLength area))), []) (Ok (record { bytes = length segment; carrier = carrier.Clear }), segment))
   copied_last segment few =
       elim (cases_lt area 1424) [
         | inl lt ↦ let same : min 1424 area ≡ area = omega arith in
-            ap (λ n. ask (leb (length segment) n) (Err (Association (Packet (AreaLength n))), []) (Ok (record { bytes = length segment; carrier = carrier.Clear }), segment)) same
+            ap (λ n. asked (leb (length segment) n) (Err (Association (Packet (AreaLength n))), []) (Ok (record { bytes = length segment; carrier = carrier.Clear }), segment)) same
         | inr ge ↦
             ask_yes _ _ _ (le-leb (length segment) (min 1424 area) (omega arith))
             ∙ sym (ask_yes _ _ _ (le-leb (length segment) area (omega arith)))
@@ -72,8 +72,8 @@ module _ (area : ℕ) where
   copied_room port segment =
       elim (cases_Bool (segment_right (length segment))) [
         | inl right ↦
-            ap (λ z. ask (segment_right (length segment)) (Err (wrong_length segment), [])
-            (ask (not (eqb (source_of segment) port)) (Err (Association SendingPort), []) z))
+            ap (λ z. asked (segment_right (length segment)) (Err (wrong_length segment), [])
+            (asked (not (eqb (source_of segment) port)) (Err (Association SendingPort), []) z))
             (copied_last segment (leb-true (length segment) 1400 (and_parts (leb 8 (length segment)) (leb (length segment) 1400) right).1))
         | inr wrong ↦ ask_no _ _ _ wrong ∙ sym (ask_no _ _ _ wrong)
       ]
@@ -97,8 +97,8 @@ module _ (area : ℕ) where
       → challenged_on g m v taken ik segment (min 1424 area) r ≡ challenged_on g m v taken ik segment area r
   challenged_on_room stage.None m v taken ik segment r = refl
   challenged_on_room (stage.Offered p d) m v taken ik segment r =
-      ap (λ e. ask (cover_stands p.cover r.slots) (refusal (ended r) (CoverGone phase.Offered))
-      (ask (not taken) (refusal (ended r) (PairInUse phase.Offered)) (sending_then e (challenged_by v.clock ik p))))
+      ap (λ e. asked (cover_stands p.cover r.slots) (refusal (ended r) (CoverGone phase.Offered))
+      (asked (not taken) (refusal (ended r) (PairInUse phase.Offered)) (sending_then e (challenged_by v.clock ik p))))
       (emitted_room m v.port (cover_carrier p.cover) segment r)
   challenged_on_room (stage.Challenged p) m v taken ik segment r = refl
   challenged_on_room (stage.Answered p) m v taken ik segment r = refl
@@ -124,7 +124,7 @@ module _ (area : ℕ) where
   concluded_on_room (stage.Challenged p) outcome.UserFailure m v segment r = refl
   concluded_on_room (stage.Challenged p) outcome.OtherFailure m v segment r = failed_room m v (cover_carrier p.cover) segment r
   concluded_on_room (stage.Answered p) (outcome.Success timer mask) m v segment r =
-      ap (λ e. ask (terms_right timer mask) (refusal r (BadTerms phase.Answered)) (sending_then e (settled v.clock timer mask p.cover)))
+      ap (λ e. asked (terms_right timer mask) (refusal r (BadTerms phase.Answered)) (sending_then e (settled v.clock timer mask p.cover)))
       (emitted_by_room m slot.Registration segment r)
   concluded_on_room (stage.Answered p) outcome.UserFailure m v segment r = failed_room m v (user_failure_carrier p.cover) segment r
   concluded_on_room (stage.Answered p) outcome.OtherFailure m v segment r = failed_room m v (cover_carrier p.cover) segment r

@@ -6,7 +6,7 @@ use Rattle.association.specs.Sealing.{Sealed, sealed_by}
 use Rattle.association.specs.declared.faults.Fault as association
 use Rattle.association.specs.declared.faults.Fault.TheVariants.{Packet, SendingPort}
 use Rattle.association.specs.declared.set.Set.{Set}
-use Rattle.esp.specs.Asking.{ask}
+use Rattle.esp.specs.Asking.{asked}
 use Rattle.esp.specs.Packet.{segment_right}
 use Rattle.esp.specs.Sealing.{laid}
 use Rattle.esp.specs.declared.faults.Fault.TheVariants.{AreaLength, SegmentLength}
@@ -41,9 +41,9 @@ wrong_length segment = Association (Packet (SegmentLength (length segment)))
 -- In clear the segment is copied. Is its length right, is its source not the protected port, is there room?
 unfoldable pub copied : ℕ → List ℕ → ℕ → Result Sent Fault × List ℕ
 copied port segment room =
-    ask (segment_right (length segment)) (Err (wrong_length segment), [])
-    (ask (not (source_of segment == port)) (Err (Association SendingPort), [])
-    (ask (nat_le (length segment) room) (Err (Association (Packet (AreaLength room))), [])
+    asked (segment_right (length segment)) (Err (wrong_length segment), [])
+    (asked (not (source_of segment == port)) (Err (Association SendingPort), [])
+    (asked (nat_le (length segment) room) (Err (Association (Packet (AreaLength room))), [])
     (Ok (record { bytes = length segment; carrier = Clear }), segment)))
 
 -- what copying leaves: its answer and the area
@@ -53,7 +53,7 @@ copy_leaves e area = (e.0, laid e.1 area)
 -- nothing is sent, and only the length is asked
 unfoldable pub unsent : List ℕ → Result Sent Fault
 unsent segment =
-    ask (segment_right (length segment)) (Err (wrong_length segment)) (Ok (record { bytes = 0; carrier = Nothing }))
+    asked (segment_right (length segment)) (Err (wrong_length segment)) (Ok (record { bytes = 0; carrier = Nothing }))
 
 abbrev pub replied : Row → Result Sent Fault × List ℕ → Reply
 replied r e = record { row = r; result = e.0; written = e.1 }

@@ -2,7 +2,7 @@
 use Rattle.std.specs.Prelude.{ℕ, zero, suc, ◌+◌, ◌*◌, Bool, cond, not, ◌||◌, Some, None, Ok, Err, Option, Result, ◌==◌}
 use Rattle.association.specs.Asked.{Address, spi_is}
 use Rattle.association.specs.declared.algorithm.Algorithm.{Algorithm}
-use Rattle.esp.specs.Asking.{ask}
+use Rattle.esp.specs.Asking.{asked}
 use Rattle.procedure.specs.Offers.{common, offer_right}
 use Rattle.registration.specs.Rows.{in_row}
 use Rattle.procedure.specs.Stages.{phase_of}
@@ -54,8 +54,8 @@ chosen_for s o alg r = record { algorithm = alg; spi = proxy_spi s o.spi r }
 abbrev pub entered_by : Option Algorithm → Service → ℕ → Bool → Address → Offer → Cover → Row → Row × Result Chosen Fault
 entered_by None v s taken a o cover r = (r, Err (NoAlgorithm (phase_of r.stage)))
 entered_by (Some alg) v s taken a o cover r =
-    ask (not (in_row (spi_is o.spi) r)) (r, Err (SpiInUse (phase_of r.stage)))
-    (ask (not taken) (r, Err (PairInUse (phase_of r.stage)))
+    asked (not (in_row (spi_is o.spi) r)) (r, Err (SpiInUse (phase_of r.stage)))
+    (asked (not taken) (r, Err (PairInUse (phase_of r.stage)))
     (offered_in v s a o cover alg r, Ok (chosen_for s o alg r)))
 
 -- The opening REGISTER of subscriber s from an address, with an offer, under a cover. `taken` says whether the
@@ -63,4 +63,4 @@ entered_by (Some alg) v s taken a o cover r =
 -- common, is the SPI new among his sets, is the pair new in the table?
 unfoldable pub entered : Service → ℕ → Bool → Address → Offer → Cover → Row → Row × Result Chosen Fault
 entered v s taken a o cover r =
-    ask (offer_right o) (r, Err (BadOffer (phase_of r.stage))) (entered_by (common v.algorithms o) v s taken a o cover r)
+    asked (offer_right o) (r, Err (BadOffer (phase_of r.stage))) (entered_by (common v.algorithms o) v s taken a o cover r)

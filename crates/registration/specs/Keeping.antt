@@ -3,7 +3,7 @@ use Rattle.std.specs.Prelude.{ℕ, ◌+◌, ◌-◌, Bool, cond, not, ◌&&◌, 
 use Rattle.association.specs.Expiry.{expiry_of, lasting}
 use Rattle.association.specs.declared.faults.Fault.TheVariants.{NoImpu, NoTraffic}
 use Rattle.association.specs.declared.set.Set.{Set}
-use Rattle.esp.specs.Asking.{ask}
+use Rattle.esp.specs.Asking.{asked}
 use Rattle.registration.specs.Rows.{blank, ended, with_slots}
 use Rattle.procedure.specs.Stages.{phase_of}
 use Rattle.procedure.specs.declared.faults.Fault.{Fault}
@@ -40,7 +40,7 @@ refreshed_to r (z, Some e) = (with_slots z r, Ok e)
 -- refresh at the second t
 unfoldable pub refreshed : ℕ → ℕ → Row → Row × Result ℕ Fault
 refreshed t timer r =
-    ask (timer_right timer) (r, Err (BadTerms (phase_of r.stage)))
+    asked (timer_right timer) (r, Err (BadTerms (phase_of r.stage)))
     (refreshed_to r (raised expiry_of lasting (expiry_after t timer) r.slots))
 
 -- the IMPUs of a mask that are not in another
@@ -56,5 +56,5 @@ remaining mask r = cond (mask == 0) blank (with_mask mask r)
 
 unfoldable pub deregistered : ℕ → Row → Row × Result ℕ Fault
 deregistered gone r =
-    ask (not (r.mask == 0)) (r, Err (Association NoImpu))
+    asked (not (r.mask == 0)) (r, Err (Association NoImpu))
     (remaining (without r.mask gone) r, Ok (count_ones (without r.mask gone)))

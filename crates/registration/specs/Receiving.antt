@@ -6,7 +6,7 @@ use Rattle.association.specs.Opening.{opened_by}
 use Rattle.association.specs.declared.faults.Fault as association
 use Rattle.association.specs.declared.faults.Fault.TheVariants.{NoSet, NotHis, OtherOffer, WrongSlot}
 use Rattle.association.specs.declared.set.Set.{Set}
-use Rattle.esp.specs.Asking.{ask}
+use Rattle.esp.specs.Asking.{asked}
 use Rattle.esp.specs.Window.{bit_at}
 use Rattle.esp.specs.declared.segment.Segment.{Segment}
 use Rattle.registration.specs.Entering.{entered}
@@ -79,7 +79,7 @@ in_mask mask i = nat_lt i 16 && bit_at mask i == 1
 abbrev pub opening_on : Option Cover → Service → ℕ → Bool → Address → Slot → ℕ → Offer → Row → Row × Result (Option Chosen) Fault
 opening_on None v s taken a k named o r = (r, Err (Association (WrongSlot k)))
 opening_on (Some c) v s taken a k named o r =
-    ask (named == s) (r, Err (Association (NotHis k))) (opened_on k (entered v s taken a o c r))
+    asked (named == s) (r, Err (Association (NotHis k))) (opened_on k (entered v s taken a o c r))
 
 -- a response is answered at stage 2, and its offer is the opening REGISTER's: else the procedure ends, since somebody
 -- may have changed the offer on its way
@@ -87,7 +87,7 @@ abbrev pub answered_on : Stage → Offer → Row → Row × Result (Option Chose
 answered_on stage.None o r = (r, Err (WrongStage phase.None))
 answered_on (stage.Offered p d) o r = (r, Err (WrongStage phase.Offered))
 answered_on (stage.Challenged p) o r =
-    ask (same_offer o p.offer) (ended r, Err (Association OtherOffer))
+    asked (same_offer o p.offer) (ended r, Err (Association OtherOffer))
     (record { slots = r.slots; mask = r.mask; stage = stage.Answered p }, Ok None)
 answered_on (stage.Answered p) o r = (r, Err (WrongStage phase.Answered))
 
@@ -99,7 +99,7 @@ response_on slot.Registration o r = answered_on r.stage o r
 abbrev pub ordinary_on : Option Cover → Slot → ℕ → Row → Row × Result (Option Chosen) Fault
 ordinary_on None k i r = (r, Err (Association (WrongSlot k)))
 ordinary_on (Some c) k i r =
-    ask (in_mask r.mask i) (r, Err (Association (NotHis k))) (settled_on k r, Ok None)
+    asked (in_mask r.mask i) (r, Err (Association (NotHis k))) (settled_on k r, Ok None)
 
 -- What a message does on the row of subscriber s, once its packet is opened on slot k. `taken` says whether the pair
 -- of the address and an opening's offered port stands in the table.

@@ -6,7 +6,7 @@ use Rattle.association.specs.Expiry.{expiry_of, lasting}
 use Rattle.association.specs.declared.faults.Fault.TheVariants.{NoTraffic}
 use Rattle.association.specs.declared.set.Parameters.{Parameters}
 use Rattle.association.specs.declared.set.Set.{Set}
-use Rattle.esp.specs.Asking.{ask}
+use Rattle.esp.specs.Asking.{asked}
 use Rattle.registration.specs.Emitting.{Reply, emitted, emitted_by, refusal, sending_then}
 use Rattle.registration.specs.Keeping.{expiry_after, timer_right}
 use Rattle.registration.specs.Rows.{ended}
@@ -64,8 +64,8 @@ challenged_by t ik p r =
 abbrev pub challenged_on : Stage → Macs → Service → Bool → List ℕ → List ℕ → ℕ → Row → Reply
 challenged_on stage.None m v taken ik segment room r = refusal r (WrongStage phase.None)
 challenged_on (stage.Offered p d) m v taken ik segment room r =
-    ask (cover_stands p.cover r.slots) (refusal (ended r) (CoverGone phase.Offered))
-    (ask (not taken) (refusal (ended r) (PairInUse phase.Offered))
+    asked (cover_stands p.cover r.slots) (refusal (ended r) (CoverGone phase.Offered))
+    (asked (not taken) (refusal (ended r) (PairInUse phase.Offered))
     (sending_then (emitted m v.port (cover_carrier p.cover) segment room r) (challenged_by v.clock ik p)))
 challenged_on (stage.Challenged p) m v taken ik segment room r = refusal r (WrongStage phase.Challenged)
 challenged_on (stage.Answered p) m v taken ik segment room r = refusal r (WrongStage phase.Answered)
@@ -111,7 +111,7 @@ concluded_on (stage.Challenged p) (Success timer mask) m v segment room r = refu
 concluded_on (stage.Challenged p) UserFailure m v segment room r = refusal r (WrongStage phase.Challenged)
 concluded_on (stage.Challenged p) OtherFailure m v segment room r = failed_by m v (cover_carrier p.cover) segment room r
 concluded_on (stage.Answered p) (Success timer mask) m v segment room r =
-    ask (terms_right timer mask) (refusal r (BadTerms phase.Answered))
+    asked (terms_right timer mask) (refusal r (BadTerms phase.Answered))
     (sending_then (emitted_by m slot.Registration segment room r) (settled v.clock timer mask p.cover))
 concluded_on (stage.Answered p) UserFailure m v segment room r = failed_by m v (user_failure_carrier p.cover) segment room r
 concluded_on (stage.Answered p) OtherFailure m v segment room r = failed_by m v (cover_carrier p.cover) segment room r

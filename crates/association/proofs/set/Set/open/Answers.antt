@@ -1,16 +1,16 @@
-use Rattle.esp.specs.Asking.{ask}
+use Rattle.esp.specs.Asking.{asked}
 use Rattle.std.proofs.Common.{rules}
 use Rattle.association.specs.Opening.{opened_by}
 use Rattle.association.proofs.set.Set.open.Goals as goal
 
 pub returns-in-err-segment : goal.returns-in-err-segment
-unfolding opened_by ask
+unfolding opened_by asked
 returns-in-err-segment g c = search rules
 
 pub returns-then-source-port-self : goal.returns-then-source-port-self
-unfolding opened_by ask
+unfolding opened_by asked
 returns-then-source-port-self g c = search rules
 
 pub returns : goal.returns
-unfolding opened_by ask
+unfolding opened_by asked
 returns g c = search rules

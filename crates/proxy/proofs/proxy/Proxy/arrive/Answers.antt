@@ -1,11 +1,11 @@
-use Rattle.esp.specs.Asking.{ask}
+use Rattle.esp.specs.Asking.{asked}
 use Rattle.proxy.proofs.Housed.{arriving_housed, arriving_wide_same, housed_by}
 use Rattle.proxy.proofs.proxy.Proxy.arrive.Goals as goal
 use Rattle.proxy.specs.Machine.{arriving}
 use Rattle.std.proofs.Common.{◌∙◌, rules}
 
 pub returns-in-err-new : goal.returns-in-err-new
-unfolding arriving ask
+unfolding arriving asked
 returns-in-err-new g c =
     record {
       machine = search rules;
@@ -15,7 +15,7 @@ returns-in-err-new g c =
     }
 
 pub returns-in-err-i : goal.returns-in-err-i
-unfolding arriving ask
+unfolding arriving asked
 returns-in-err-i g c =
     record {
       machine = search rules;
@@ -25,7 +25,7 @@ returns-in-err-i g c =
     }
 
 pub returns : goal.returns
-unfolding arriving ask
+unfolding arriving asked
 returns g c =
     record {
       machine = search rules;

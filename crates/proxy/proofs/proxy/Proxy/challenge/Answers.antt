@@ -1,15 +1,15 @@
-use Rattle.esp.specs.Asking.{ask}
+use Rattle.esp.specs.Asking.{asked}
 use Rattle.proxy.proofs.Housed.{housed_by, challenging_housed}
 use Rattle.proxy.proofs.proxy.Proxy.challenge.Goals as goal
 use Rattle.proxy.specs.Machine.{challenging}
 use Rattle.std.proofs.Common.{length, rules}
 
 pub returns-in-err-i : goal.returns-in-err-i
-unfolding challenging ask
+unfolding challenging asked
 returns-in-err-i g c = record { machine = search rules; stays = search rules; housed = λ h. h }
 
 pub returns : goal.returns
-unfolding challenging ask
+unfolding challenging asked
 returns g c =
     record {
       machine = search rules;

@@ -1,15 +1,15 @@
-use Rattle.esp.specs.Asking.{ask}
+use Rattle.esp.specs.Asking.{asked}
 use Rattle.proxy.proofs.Housed.{housed_by, deregistering_housed}
 use Rattle.proxy.proofs.proxy.Proxy.deregister.Goals as goal
 use Rattle.proxy.specs.Machine.{deregistering}
 use Rattle.std.proofs.Common.{rules}
 
 pub returns-in-err-i : goal.returns-in-err-i
-unfolding deregistering ask
+unfolding deregistering asked
 returns-in-err-i c = record { machine = search rules; stays = search rules; housed = λ h. h }
 
 pub returns : goal.returns
-unfolding deregistering ask
+unfolding deregistering asked
 returns c =
     record {
       machine = search rules;

@@ -1,15 +1,15 @@
-use Rattle.esp.specs.Asking.{ask}
+use Rattle.esp.specs.Asking.{asked}
 use Rattle.proxy.proofs.Housed.{housed_by, refreshing_housed}
 use Rattle.proxy.proofs.proxy.Proxy.refresh.Goals as goal
 use Rattle.proxy.specs.Machine.{refreshing}
 use Rattle.std.proofs.Common.{rules}
 
 pub returns-in-err-i : goal.returns-in-err-i
-unfolding refreshing ask
+unfolding refreshing asked
 returns-in-err-i c = record { machine = search rules; stays = search rules; housed = λ h. h }
 
 pub returns : goal.returns
-unfolding refreshing ask
+unfolding refreshing asked
 returns c =
     record {
       machine = search rules;

@@ -1,15 +1,15 @@
-use Rattle.esp.specs.Asking.{ask}
+use Rattle.esp.specs.Asking.{asked}
 use Rattle.proxy.proofs.Housed.{housed_by, registered_housed}
 use Rattle.proxy.proofs.proxy.Proxy.register.Goals as goal
 use Rattle.proxy.specs.Machine.{registered}
 use Rattle.std.proofs.Common.{rules}
 
 pub returns-in-err-i : goal.returns-in-err-i
-unfolding registered ask
+unfolding registered asked
 returns-in-err-i c = record { machine = search rules; stays = search rules; housed = λ h. h }
 
 pub returns : goal.returns
-unfolding registered ask
+unfolding registered asked
 returns c =
     record {
       machine = search rules;

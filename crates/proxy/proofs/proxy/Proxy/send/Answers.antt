@@ -1,15 +1,15 @@
-use Rattle.esp.specs.Asking.{ask}
+use Rattle.esp.specs.Asking.{asked}
 use Rattle.proxy.proofs.Housed.{housed_by, sending_call_housed}
 use Rattle.proxy.proofs.proxy.Proxy.send.Goals as goal
 use Rattle.proxy.specs.Machine.{sending}
 use Rattle.std.proofs.Common.{length, rules}
 
 pub returns-in-err-i : goal.returns-in-err-i
-unfolding sending ask
+unfolding sending asked
 returns-in-err-i g c = record { machine = search rules; stays = search rules; housed = λ h. h }
 
 pub returns : goal.returns
-unfolding sending ask
+unfolding sending asked
 returns g c =
     record {
       machine = search rules;

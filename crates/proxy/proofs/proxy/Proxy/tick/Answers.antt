@@ -1,4 +1,4 @@
-use Rattle.esp.specs.Asking.{ask}
+use Rattle.esp.specs.Asking.{asked}
 use Rattle.proxy.proofs.Housed.{housed_by, ticked_housed}
 use Rattle.proxy.proofs.Tables.{all_done, one_more}
 use Rattle.proxy.proofs.proxy.Proxy.tick.Goals as goal
@@ -7,7 +7,7 @@ use Rattle.registration.specs.Keeping.{aged}
 use Rattle.std.proofs.Common.{rules}
 
 pub returns-then-t-self : goal.returns-then-t-self
-unfolding ticked ask
+unfolding ticked asked
 returns-then-t-self c = record { machine = search rules; stays = search rules; housed = λ h. h }
 
 pub loop-row-preserved : goal.loop-row-preserved
@@ -15,7 +15,7 @@ loop-row-preserved c =
     one_more (aged c.args.t) c.args.self.now.rows.now c.loop-row.row-items c.loop-row.row-index _ (search rules) (search rules) c.loop-row.invariant c.expire.ensures
 
 pub returns : goal.returns
-unfolding ticked ask
+unfolding ticked asked
 returns c =
     let e = all_done (aged c.args.t) c.args.self.now.rows.now c.loop-row.row-items c.loop-row.row-index (search rules) c.loop-row.invariant in
     record {

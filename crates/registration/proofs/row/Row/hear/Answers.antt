@@ -1,16 +1,16 @@
-use Rattle.esp.specs.Asking.{ask}
+use Rattle.esp.specs.Asking.{asked}
 use Rattle.std.proofs.Common.{rules}
 use Rattle.registration.specs.Receiving.{heard}
 use Rattle.registration.proofs.row.Row.hear.Goals as goal
 
 pub returns-in-Opening : goal.returns-in-Opening
-unfolding heard ask
+unfolding heard asked
 returns-in-Opening c = search rules
 
 pub returns-in-Response : goal.returns-in-Response
-unfolding heard ask
+unfolding heard asked
 returns-in-Response c = search rules
 
 pub returns-in-Ordinary : goal.returns-in-Ordinary
-unfolding heard ask
+unfolding heard asked
 returns-in-Ordinary c = search rules

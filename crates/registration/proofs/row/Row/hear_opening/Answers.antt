@@ -1,15 +1,15 @@
 use Rattle.std.proofs.Common.{rules}
-use Rattle.esp.specs.Asking.{ask}
+use Rattle.esp.specs.Asking.{asked}
 use Rattle.registration.proofs.row.Row.hear_opening.Goals as goal
 
 pub returns-then-named-from : goal.returns-then-named-from
-unfolding ask
+unfolding asked
 returns-then-named-from c = search rules
 
 pub returns-in-err-chosen : goal.returns-in-err-chosen
-unfolding ask
+unfolding asked
 returns-in-err-chosen c = search rules
 
 pub returns : goal.returns
-unfolding ask
+unfolding asked
 returns c = search rules

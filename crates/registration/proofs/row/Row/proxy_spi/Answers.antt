@@ -1,11 +1,11 @@
-use Rattle.esp.specs.Asking.{ask}
+use Rattle.esp.specs.Asking.{asked}
 use Rattle.std.proofs.Common.{◌≡◌, ◌+◌, ◌*◌, ap, ◌∙◌, arith, rules}
 use Rattle.registration.proofs.Frees.{found, last, passed}
 use Rattle.registration.proofs.row.Row.proxy_spi.Goals as goal
 use Rattle.registration.specs.Entering.{in_use, lowest_free, proxy_spi}
 
 pub loop-k-init : goal.loop-k-init
-unfolding proxy_spi ask
+unfolding proxy_spi asked
 loop-k-init c =
     let e : (4096 + 16 * c.from.result) + 0 ≡ 4096 + 16 * c.args.subscriber = omega (arith, c.from.ensures) in
     ap (λ q. lowest_free (in_use c.args.offered c.args.self.now) 15 q) e
