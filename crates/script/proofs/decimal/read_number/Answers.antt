@@ -9,17 +9,17 @@ within most text r e = subst (λ o. IfSome o (λ n. n ≤ most)) (sym e) (number
 back : (most : ℕ) (text : List ℕ) (r : Option ℕ) → most < 2 ^ 64 → r ≡ number_of most text → (n : ℕ) → n ≤ most → text ≡ decimal n → r ≡ Some n
 back most text r f e n h is = e ∙ ap (number_of most) is ∙ number_back most n h (omega arith)
 
-pub returns-then-is-empty : goal.returns-then-is-empty
-returns-then-is-empty c =
+pub returns-then-is_empty : goal.returns-then-is_empty
+returns-then-is_empty c =
     let most = c.args.most in
     let text = c.args.text.now in
-    let e = number_none most text (true-eqb _ _ c.if-is-empty.ensures) in
+    let e = number_none most text (true-eqb _ _ c.if-is_empty.ensures) in
     record { value = e; within = tt; back = back most text None (omega arith) e }
 
-pub returns-else-is-empty : goal.returns-else-is-empty
-returns-else-is-empty c =
+pub returns-else-is_empty : goal.returns-else-is_empty
+returns-else-is_empty c =
     let most = c.args.most in
     let text = c.args.text.now in
-    let ne = false-eqb _ _ c.if-is-empty.ensures in
-    let e = c.read-digits.ensures (omega arith) in
+    let ne = false-eqb _ _ c.if-is_empty.ensures in
+    let e = c.read_digits.ensures (omega arith) in
     record { value = e; within = within most text _ e; back = back most text _ (omega arith) e }

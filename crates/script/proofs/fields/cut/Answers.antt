@@ -12,7 +12,7 @@ returns-then-b-mark c =
     let z : c.loop-i.i - 0 ≡ c.loop-i.i = omega arith in
     record {
       front = ap (λ (k : ℕ). take k xs) z ∙ sym (c.loop-i.invariant.0 ∙ before_here m xs i c.loop-i-test.true c.if-b-mark.true);
-      back = ap Some c.split-at.ensures.back ∙ sym (c.loop-i.invariant.1 ∙ after_here m xs i c.loop-i-test.true c.if-b-mark.true);
+      back = ap Some c.split_at.ensures.back ∙ sym (c.loop-i.invariant.1 ∙ after_here m xs i c.loop-i-test.true c.if-b-mark.true);
     }
 
 pub loop-i-preserved : goal.loop-i-preserved

@@ -12,10 +12,10 @@ loop-i-init c =
     none_before (paired c.args.text.now)
     ∙ ap (λ (xs : List ℕ). prefixed xs (paired c.args.text.now)) (sym c.new-bytes.ensures.items)
 
-pub returns-in-default : goal.returns-in-default
-returns-in-default c =
+pub returns-in_default : goal.returns-in_default
+returns-in_default c =
     c.loop-i.invariant
-    ∙ prefixed_none c.args.text.now c.loop-i.i (vec_items c.loop-i.bytes) (omega arith) (sym c.in-default.is ∙ c.pair.ensures)
+    ∙ prefixed_none c.args.text.now c.loop-i.i (vec_items c.loop-i.bytes) (omega arith) (sym c.in_default.is ∙ c.pair.ensures)
 
 pub loop-i-preserved : goal.loop-i-preserved
 loop-i-preserved c =
@@ -23,7 +23,7 @@ loop-i-preserved c =
     let i = c.loop-i.i in
     c.loop-i.invariant
     ∙ prefixed_more text i (vec_items c.loop-i.bytes) c.in-Some.byte (omega arith) (sym c.in-Some.is ∙ c.pair.ensures)
-    ∙ ap (λ (xs : List ℕ). prefixed xs (paired (drop (2 * (i + 1)) text))) (sym c.in-ok-push.ensures.items)
+    ∙ ap (λ (xs : List ℕ). prefixed xs (paired (drop (2 * (i + 1)) text))) (sym c.in_ok-push.ensures.items)
 
 pub returns-then-text-eq0 : goal.returns-then-text-eq0
 returns-then-text-eq0 c =

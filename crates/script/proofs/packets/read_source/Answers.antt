@@ -2,13 +2,13 @@ use Rattle.script.proofs.packets.read_source.Goals as goal
 use Rattle.script.specs.Packets.{source_of}
 use Rattle.std.proofs.Common.{rules}
 
-pub returns-in-err-read-bytes : goal.returns-in-err-read-bytes
+pub returns-in_err-read_bytes : goal.returns-in_err-read_bytes
 unfolding source_of
-returns-in-err-read-bytes c = search rules
+returns-in_err-read_bytes c = search rules
 
-pub returns-then-not-is-text : goal.returns-then-not-is-text
+pub returns-then-not-is_text : goal.returns-then-not-is_text
 unfolding source_of
-returns-then-not-is-text c = search rules
+returns-then-not-is_text c = search rules
 
 pub returns-in-Some : goal.returns-in-Some
 unfolding source_of

@@ -17,7 +17,7 @@ seal_shown count n lent bytes e l =
 pub returns-in-Sealed-clause-writes : goal.returns-in-Sealed-clause-writes
 returns-in-Sealed-clause-writes g c p e =
     has_written_of_eq g.W.Write.write_str_gives _ _ (text_of c.args.self.now) _
-    (seal_shown c.in-Sealed.count c.len-bytes.result _ _ c.as-slice.ensures.value (c.len-bytes.ensures ∙ sym c.as-slice.ensures.len) ∙ sym (ap text_of c.in-Sealed.is))
+    (seal_shown c.in-Sealed.count c.len-bytes.result _ _ c.as_slice.ensures.value (c.len-bytes.ensures ∙ sym c.as_slice.ensures.len) ∙ sym (ap text_of c.in-Sealed.is))
     (c.write-in-Sealed.ensures.writes p e)
 
 pub returns-in-EmptyWindow-clause-writes : goal.returns-in-EmptyWindow-clause-writes
@@ -26,7 +26,7 @@ returns-in-EmptyWindow-clause-writes g c p e =
 
 pub returns-in-Opened-clause-writes : goal.returns-in-Opened-clause-writes
 returns-in-Opened-clause-writes g c p e =
-    has_written_of_eq g.W.Write.write_str_gives _ _ (text_of c.args.self.now) _ (ap (unseal_text c.in-Opened.place) c.as-slice-in-Opened.ensures.value ∙ sym (ap text_of c.in-Opened.is))
+    has_written_of_eq g.W.Write.write_str_gives _ _ (text_of c.args.self.now) _ (ap (unseal_text c.in-Opened.place) c.as_slice-in-Opened.ensures.value ∙ sym (ap text_of c.in-Opened.is))
     (c.write-in-Opened.ensures.writes p e)
 
 pub returns-in-Refused-clause-writes : goal.returns-in-Refused-clause-writes
