@@ -3,21 +3,21 @@ use Rattle.std.proofs.Common.{rules}
 use Rattle.association.specs.Sealing.{sealed_by}
 use Rattle.association.proofs.set.Set.seal.Goals as goal
 
-pub returns-then-is-none : goal.returns-then-is-none
+pub returns-then-is_none : goal.returns-then-is_none
 unfolding sealed_by asked
-returns-then-is-none g c = search rules
+returns-then-is_none g c = search rules
 
-pub returns-then-destination-port-self : goal.returns-then-destination-port-self
+pub returns-then-destination_port-self : goal.returns-then-destination_port-self
 unfolding sealed_by asked
-returns-then-destination-port-self g c = search rules
+returns-then-destination_port-self g c = search rules
 
 pub returns-then-self-ge4294967295 : goal.returns-then-self-ge4294967295
 unfolding sealed_by asked
 returns-then-self-ge4294967295 g c = search rules
 
-pub returns-in-err-n : goal.returns-in-err-n
+pub returns-in_err-n : goal.returns-in_err-n
 unfolding sealed_by asked
-returns-in-err-n g c = search rules
+returns-in_err-n g c = search rules
 
 pub returns : goal.returns
 unfolding sealed_by asked
