@@ -1,6 +1,6 @@
 -- Each call keeps what holds throughout a row, if it holds of what an opening REGISTER leaves and of what a challenge
 -- makes of it.
-use Rattle.std.proofs.Common.{◌≡◌, ℕ, ◌+◌, max, Bool, eqb, ltb, leb, List, is_some, Some, None, Ok, Err, Option, Result, sym, refl, subst}
+use Rattle.std.proofs.Common.{◌≡◌, ℕ, ◌+◌, Bool, eqb, ltb, leb, List, is_some, Some, None, Ok, Err, Option, Result, sym, refl, subst}
 use Rattle.association.specs.Algorithms.{Macs}
 use Rattle.association.specs.Asked.{Address, own_is}
 use Rattle.association.specs.Expiry.{expiry_of, lasting}
@@ -14,7 +14,7 @@ use Rattle.registration.specs.Emitting.{Reply, afterwards, emitted, emitted_by, 
 use Rattle.registration.specs.Entering.{entered, entered_by, proxy_spi}
 use Rattle.registration.specs.Keeping.{aged, aged_on, deregistered, refreshed, refreshed_to, with_mask, without}
 use Rattle.procedure.specs.Offers.{common}
-use Rattle.registration.specs.Receiving.{Heard, admitted, admitted_as, admitted_by, answered_on, answered_with, heard, opened_on, opening_on, ordinary_on, received, received_as, received_on, response_on, settled_on, slot_cover}
+use Rattle.registration.specs.Receiving.{admitted, admitted_as, admitted_by, answered_on, answered_with, heard, opened_on, opening_on, ordinary_on, received, received_as, received_on, response_on, settled_on, slot_cover}
 use Rattle.registration.specs.Rows.{blank, ended, slot_for, with_slots}
 use Rattle.registration.specs.Sending.{challenged, challenged_by, challenged_on, concluded, concluded_on, parameters_of, sent, sent_on, settled, traffic_slot}
 use Rattle.registration.specs.Throughout.{InSlot, InStage, Throughout}
@@ -33,7 +33,7 @@ use Rattle.procedure.specs.declared.service.Service.{Service}
 use Rattle.procedure.specs.declared.stage.Procedure.{Procedure}
 use Rattle.procedure.specs.declared.stage.Stage.{Stage}
 use Rattle.procedure.specs.declared.stage.Stage.TheVariants as stage
-use Rattle.slots.specs.Slots.{at, expired, kept, live, put, raised, raised_on}
+use Rattle.slots.specs.Slots.{at, expired, kept, live, put, raised_on}
 use Rattle.slots.specs.declared.cover.Cover.{Cover}
 use Rattle.slots.specs.declared.cover.Cover.TheVariants as cover
 use Rattle.slots.specs.declared.slot.Slot.{Slot}

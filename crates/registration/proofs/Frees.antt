@@ -1,5 +1,5 @@
 -- The search for a free SPI, one number at a time.
-use Rattle.std.proofs.Common.{◌≡◌, ℕ, suc, ◌+◌, ◌-◌, ◌<◌, Bool, true, false, cond, sym, refl, ap, ◌∙◌, arith}
+use Rattle.std.proofs.Common.{◌≡◌, ℕ, suc, ◌+◌, ◌-◌, ◌<◌, Bool, true, false, cond, sym, ap, ◌∙◌, arith}
 use Rattle.registration.specs.Entering.{lowest_free}
 
 one_more : (used : ℕ → Bool) (k q : ℕ) → k < 15

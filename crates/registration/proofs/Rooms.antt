@@ -1,10 +1,9 @@
 -- Output areas of several lengths: no call needs more than the longest packet, and the count that it answers is the
 -- count of the bytes that it wrote.
-use Rattle.std.proofs.Common.{◌≡◌, ℕ, ◌<◌, ◌≤◌, min, Bool, true, false, not, eqb, ltb, leb, ◌⊎◌, List, [], length, IfOk, Some, None, Ok, Err, Option, Result, sym, refl, ap, ◌∙◌, subst, inl, inr, arith}
+use Rattle.std.proofs.Common.{◌≡◌, ℕ, ◌≤◌, min, Bool, not, eqb, ltb, leb, List, [], length, IfOk, Some, None, Ok, Err, Option, Result, sym, refl, ap, ◌∙◌, inl, inr, arith}
 use Rattle.association.specs.Algorithms.{Macs, mac_by}
 use Rattle.association.specs.Sealing.{Sealed, carried, lifted, refused, sealed_by}
 use Rattle.association.specs.declared.algorithm.Algorithm.{Algorithm}
-use Rattle.association.specs.declared.faults.Fault as association
 use Rattle.association.specs.declared.faults.Fault.TheVariants.{CounterSpent, Packet, SendingPort}
 use Rattle.association.specs.declared.set.Set.{Set}
 use Rattle.association.specs.Ports.{destination_of, source_of}
@@ -12,7 +11,6 @@ use Rattle.esp.proofs.Asks.{ask_both, ask_no, ask_yes}
 use Rattle.esp.proofs.Rooms.{counted, room_enough}
 use Rattle.esp.specs.Asking.{asked}
 use Rattle.esp.specs.Packet.{segment_right}
-use Rattle.esp.specs.Sealing.{Sealing, sealing}
 use Rattle.esp.specs.declared.faults.Fault as esp
 use Rattle.esp.specs.declared.faults.Fault.TheVariants.{AreaLength, SegmentLength}
 use Rattle.registration.specs.Emitting.{Reply, copied, emitted, emitted_by, emitted_on, refusal, replied, sealed_in, sending_then, sent_by, unsent, wrong_length}

@@ -19,7 +19,6 @@ use Rattle.procedure.specs.declared.faults.Fault.TheVariants.{Association}
 use Rattle.registration.specs.declared.row.Row.{Row}
 use Rattle.slots.specs.Slots.{at, put}
 use Rattle.slots.specs.declared.slot.Slot.{Slot}
-use Rattle.slots.specs.declared.three.Slots.{Slots}
 
 -- a row after a call that may send, its answer, and what was written from the front of the output area on
 pub record Reply : Type 0 where

@@ -12,7 +12,6 @@ use Rattle.procedure.specs.declared.faults.Fault.TheVariants.{BadOffer, NoAlgori
 use Rattle.procedure.specs.declared.offer.Offer.{Offer}
 use Rattle.registration.specs.declared.row.Row.{Row}
 use Rattle.procedure.specs.declared.service.Service.{Service}
-use Rattle.procedure.specs.declared.stage.Procedure.{Procedure}
 use Rattle.procedure.specs.declared.stage.Stage.TheVariants.{Offered}
 use Rattle.slots.specs.declared.cover.Cover.{Cover}
 

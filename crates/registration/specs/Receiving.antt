@@ -22,7 +22,6 @@ use Rattle.procedure.specs.declared.offer.Offer.{Offer}
 use Rattle.registration.specs.declared.row.Row.{Row}
 use Rattle.procedure.specs.declared.service.Service.{Service}
 use Rattle.procedure.specs.declared.stage.Phase.TheVariants as phase
-use Rattle.procedure.specs.declared.stage.Procedure.{Procedure}
 use Rattle.procedure.specs.declared.stage.Stage.{Stage}
 use Rattle.procedure.specs.declared.stage.Stage.TheVariants as stage
 use Rattle.slots.specs.Slots.{at, put}

@@ -3,13 +3,13 @@ use Rattle.std.proofs.Common.{rules}
 use Rattle.registration.specs.Emitting.{copied}
 use Rattle.registration.proofs.sending.copy_clear.Goals as goal
 
-pub returns-then-is-none : goal.returns-then-is-none
+pub returns-then-is_none : goal.returns-then-is_none
 unfolding copied asked
-returns-then-is-none c = search rules
+returns-then-is_none c = search rules
 
-pub returns-then-source-port-port : goal.returns-then-source-port-port
+pub returns-then-source_port-port : goal.returns-then-source_port-port
 unfolding copied asked
-returns-then-source-port-port c = search rules
+returns-then-source_port-port c = search rules
 
 pub returns-then-out-segment : goal.returns-then-out-segment
 unfolding copied asked

@@ -3,17 +3,17 @@ use Rattle.std.proofs.Common.{rules}
 use Rattle.registration.specs.Sending.{concluded}
 use Rattle.registration.proofs.row.Row.conclude.Goals as goal
 
-pub returns-then-not-terms-right : goal.returns-then-not-terms-right
+pub returns-then-not-terms_right : goal.returns-then-not-terms_right
 unfolding concluded asked
-returns-then-not-terms-right g c = search rules
+returns-then-not-terms_right g c = search rules
 
-pub returns-in-err-sent : goal.returns-in-err-sent
+pub returns-in_err-sent-in-Answered-Success : goal.returns-in_err-sent-in-Answered-Success
 unfolding concluded asked
-returns-in-err-sent g c = search rules
+returns-in_err-sent-in-Answered-Success g c = search rules
 
-pub returns-in-ok-sent : goal.returns-in-ok-sent
+pub returns-in_ok-sent-in-Answered-Success : goal.returns-in_ok-sent-in-Answered-Success
 unfolding concluded asked
-returns-in-ok-sent g c = search rules
+returns-in_ok-sent-in-Answered-Success g c = search rules
 
 pub returns-in-Answered-UserFailure : goal.returns-in-Answered-UserFailure
 unfolding concluded asked

@@ -3,13 +3,13 @@ use Rattle.std.proofs.Common.{rules}
 use Rattle.registration.specs.Entering.{entered}
 use Rattle.registration.proofs.row.Row.enter.Goals as goal
 
-pub returns-then-not-is-right : goal.returns-then-not-is-right
+pub returns-then-not-is_right : goal.returns-then-not-is_right
 unfolding entered asked
-returns-then-not-is-right c = search rules
+returns-then-not-is_right c = search rules
 
-pub returns-in-default : goal.returns-in-default
+pub returns-in_default : goal.returns-in_default
 unfolding entered asked
-returns-in-default c = search rules
+returns-in_default c = search rules
 
 pub returns-then-uses : goal.returns-then-uses
 unfolding entered asked

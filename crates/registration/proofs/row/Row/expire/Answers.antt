@@ -15,10 +15,10 @@ pub returns-else-deadline-from : goal.returns-else-deadline-from
 unfolding aged asked
 returns-else-deadline-from c = search rules
 
-pub returns-then-is-none : goal.returns-then-is-none
+pub returns-then-is_none : goal.returns-then-is_none
 unfolding aged asked
-returns-then-is-none c = search rules
+returns-then-is_none c = search rules
 
-pub returns-else-is-none : goal.returns-else-is-none
+pub returns-else-is_none : goal.returns-else-is_none
 unfolding aged asked
-returns-else-is-none c = search rules
+returns-else-is_none c = search rules

@@ -6,9 +6,9 @@ pub returns-then-named-from : goal.returns-then-named-from
 unfolding asked
 returns-then-named-from c = search rules
 
-pub returns-in-err-chosen : goal.returns-in-err-chosen
+pub returns-in_err-chosen : goal.returns-in_err-chosen
 unfolding asked
-returns-in-err-chosen c = search rules
+returns-in_err-chosen c = search rules
 
 pub returns : goal.returns
 unfolding asked

@@ -3,9 +3,9 @@ use Rattle.std.proofs.Common.{rules}
 use Rattle.registration.specs.Keeping.{refreshed}
 use Rattle.registration.proofs.row.Row.refresh.Goals as goal
 
-pub returns-then-not-timer-right : goal.returns-then-not-timer-right
+pub returns-then-not-timer_right : goal.returns-then-not-timer_right
 unfolding refreshed asked
-returns-then-not-timer-right c = search rules
+returns-then-not-timer_right c = search rules
 
 pub returns-in-None : goal.returns-in-None
 unfolding refreshed asked
