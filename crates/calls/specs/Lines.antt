@@ -106,5 +106,5 @@ call_by f (Refresh s timer) = Refresh s timer
 call_by f (Deregister s mask) = Deregister s mask
 
 abbrev pub line_by : {X Y : Type 0} → (X → Y) → Line X → Line Y
-line_by f (Packets p) = Packets (packets.lineBy f p)
+line_by f (Packets p) = Packets (packets.line_by f p)
 line_by f (Call c) = Call (call_by f c)

@@ -1,5 +1,5 @@
 -- The line that concludes a registration.
-use Rattle.std.specs.Prelude.{ℕ, cond, List, [], ◌∷◌, Some, None, codes, Option}
+use Rattle.std.specs.Prelude.{ℕ, cond, List, [], ◌∷◌, None, codes, Option}
 use Rattle.calls.specs.declared.line.CallLine.{CallLine}
 use Rattle.calls.specs.declared.line.CallLine.TheVariants.{Conclude}
 use Rattle.procedure.specs.declared.message.Outcome.{Outcome}

@@ -3,4 +3,4 @@ use Rattle.calls.proofs.addresses.half.Goals as goal
 use Rattle.std.proofs.Common.{◌∙◌, arith}
 
 pub returns : goal.returns
-returns c = c.from-be-bytes.ensures ∙ half_is c.args.bytes (omega arith)
+returns c = c.from_be_bytes.ensures ∙ half_is c.args.bytes (omega arith)

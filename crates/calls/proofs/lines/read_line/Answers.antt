@@ -6,10 +6,10 @@ pub returns-in-Ok : goal.returns-in-Ok
 unfolding line_of
 returns-in-Ok c = search rules
 
-pub returns-in-err-read-call : goal.returns-in-err-read-call
+pub returns-in_err-read_call-in-Err-BadLine : goal.returns-in_err-read_call-in-Err-BadLine
 unfolding line_of
-returns-in-err-read-call c = search rules
+returns-in_err-read_call-in-Err-BadLine c = search rules
 
-pub returns-in-ok-read-call : goal.returns-in-ok-read-call
+pub returns-in_ok-read_call-in-Err-BadLine : goal.returns-in_ok-read_call-in-Err-BadLine
 unfolding line_of
-returns-in-ok-read-call c = search rules
+returns-in_ok-read_call-in-Err-BadLine c = search rules
