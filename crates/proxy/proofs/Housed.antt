@@ -1,8 +1,7 @@
 -- Opening puts every set into the row of its block, and every call keeps it there.
-use Rattle.std.proofs.Common.{◌≡◌, ℕ, zero, suc, ◌+◌, ◌-◌, ◌*◌, ◌/◌, ◌<◌, ◌≤◌, min, Bool, true, false, cond, ◌&&◌, ◌||◌, eqb, ltb, leb, ◌≢◌, ◌⊎◌, List, map, length, get_or, set, Some, None, Ok, Err, Option, Result, sym, refl, ap, ◌∙◌, subst, inl, inr, arith, length-set}
+use Rattle.std.proofs.Common.{◌≡◌, ℕ, zero, suc, ◌+◌, ◌<◌, ◌≤◌, min, Bool, true, false, cond, ◌&&◌, ◌||◌, eqb, ltb, leb, List, map, length, get_or, set, Some, None, Err, Option, Result, sym, refl, ap, ◌∙◌, subst, inl, inr, arith, length-set}
 use Rattle.association.specs.Algorithms.{Macs}
-use Rattle.association.specs.Asked.{Address, own_is, pair_is}
-use Rattle.association.specs.declared.algorithm.Algorithm.{Algorithm}
+use Rattle.association.specs.Asked.{Address, own_is}
 use Rattle.association.specs.declared.faults.Fault.TheVariants.{NoSet}
 use Rattle.association.specs.declared.set.Parameters.{Parameters}
 use Rattle.association.specs.declared.set.Set.{Set}
@@ -13,27 +12,24 @@ use Rattle.proxy.proofs.Owners.{owner_none, owner_one, rows_set}
 use Rattle.proxy.specs.Housing.{Housed, HousedAt, Own}
 use Rattle.proxy.specs.Machine.{Sending, arriving, arriving_wide, challenging, concluding, deregistering, emptied, home_of, homed, on_row, opened, owner, received_at, refreshing, registered, sending, sending_on, taken, taken_by, taken_for, ticked, wrong_length}
 use Rattle.proxy.specs.State.{State, count_of, put_row, row_of}
-use Rattle.registration.proofs.Closures.{aged_keeps, begun, challenged_keeps, concluded_keeps, deregistered_keeps, entered_keeps, received_keeps, refreshed_keeps, sent_keeps}
+use Rattle.registration.proofs.Closures.{aged_keeps, challenged_keeps, concluded_keeps, deregistered_keeps, entered_keeps, received_keeps, refreshed_keeps, sent_keeps}
 use Rattle.registration.specs.Emitting.{Reply}
 use Rattle.registration.specs.Entering.{block_of, entered, in_use, lowest_free, proxy_spi}
 use Rattle.registration.specs.Keeping.{aged, deregistered, refreshed}
 use Rattle.procedure.specs.Offers.{serves}
-use Rattle.registration.specs.Receiving.{Heard, received, received_on}
+use Rattle.registration.specs.Receiving.{Heard, received}
 use Rattle.registration.specs.Rows.{blank, in_row, passes, pending_pair, slot_for}
 use Rattle.registration.specs.Sending.{challenged, concluded, sent}
-use Rattle.registration.specs.Throughout.{InSlot, Throughout}
-use Rattle.procedure.specs.declared.chosen.Chosen.{Chosen}
+use Rattle.registration.specs.Throughout.{InSlot}
 use Rattle.procedure.specs.declared.faults.Fault.{Fault}
 use Rattle.procedure.specs.declared.faults.Fault.TheVariants.{Association}
 use Rattle.procedure.specs.declared.message.Message.{Message}
 use Rattle.procedure.specs.declared.message.Outcome.{Outcome}
 use Rattle.procedure.specs.declared.offer.Offer.{Offer}
 use Rattle.registration.specs.declared.row.Row.{Row}
-use Rattle.procedure.specs.declared.stage.Procedure.{Procedure}
-use Rattle.slots.specs.declared.cover.Cover.{Cover}
 use Rattle.slots.specs.declared.cover.Cover.TheVariants.{Clear}
 use Rattle.std.proofs.lemmas.List.{set-get_or}
-use Rattle.std.proofs.lemmas.Bool.{and_parts, both_ways, cases_Bool, cases_eq, cond_both, eqb-true, le-leb, le-ltb, lt-ltb, ltb-true, or_parts}
+use Rattle.std.proofs.lemmas.Bool.{and_parts, both_ways, cases_Bool, cond_both, eqb-true, le-leb, le-ltb, lt-ltb, ltb-true, or_parts}
 use lib.ListN.{get_or-map, length-map}
 
 -- the number of subscribers depends on the number of rows alone

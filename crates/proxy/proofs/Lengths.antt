@@ -1,5 +1,5 @@
 -- Output areas that are given by their lengths.
-use Rattle.std.proofs.Common.{◌≡◌, ℕ, ◌-◌, ◌≤◌, min, ltb, List, [], length, take, IfOk, Ok, Err, Result, sym, refl, ap, ◌∙◌, subst, arith}
+use Rattle.std.proofs.Common.{◌≡◌, ℕ, ◌-◌, ◌≤◌, min, ltb, List, [], length, take, IfOk, Err, Result, sym, ap, ◌∙◌, subst, arith}
 use Rattle.association.specs.Algorithms.{Mac, Macs}
 use Rattle.association.specs.declared.algorithm.Algorithm.TheVariants.{One, Two}
 use Rattle.esp.proofs.Asks.{ask_both}

@@ -1,5 +1,5 @@
 -- The table as a list of rows: what a write to one row leaves, and which row has a set.
-use Rattle.std.proofs.Common.{◌≡◌, ℕ, zero, suc, ◌<◌, Bool, true, false, cond, ◌≢◌, List, [], ◌∷◌, length, get_or, set, refl, ap, ◌∙◌, arith}
+use Rattle.std.proofs.Common.{◌≡◌, ℕ, zero, suc, Bool, true, false, cond, ◌≢◌, List, [], ◌∷◌, length, get_or, set, refl, ap, ◌∙◌, arith}
 use Rattle.association.specs.declared.set.Parameters.{Parameters}
 use Rattle.proxy.specs.Machine.{owner}
 use Rattle.registration.specs.Rows.{blank, in_row}

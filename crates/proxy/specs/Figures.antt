@@ -1,5 +1,5 @@
 -- Figures worked out by hand, for the definitions to agree with.
-use Rattle.std.specs.Prelude.{◌≡◌, ℕ, ◌+◌, Some, None}
+use Rattle.std.specs.Prelude.{◌≡◌, ◌+◌, Some, None}
 use Rattle.association.specs.Expiry.{expiry_of, lasting}
 use Rattle.association.specs.declared.set.Set.{Set}
 use Rattle.esp.specs.Figures.{PacketFigures, WindowFigures}

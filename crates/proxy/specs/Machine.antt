@@ -1,5 +1,5 @@
 -- The machine: opening, and each call as an act on one row that learns of the rest of the table a single bit.
-use Rattle.std.specs.Prelude.{ℕ, suc, ◌-◌, ◌/◌, Bool, false, cond, not, ◌&&◌, List, [], ◌∷◌, map, length, set, Some, None, Ok, Err, Option, Result, ◌==◌, nat_le, nat_lt, slice_set}
+use Rattle.std.specs.Prelude.{ℕ, suc, ◌-◌, ◌/◌, Bool, false, cond, not, ◌&&◌, List, [], ◌∷◌, map, length, Some, None, Ok, Err, Option, Result, ◌==◌, nat_le, nat_lt, slice_set}
 use Rattle.association.specs.Algorithms.{Macs}
 use Rattle.association.specs.Asked.{Address, own_is, pair_is}
 use Rattle.association.specs.declared.faults.Fault.TheVariants.{NoSet, Packet}
@@ -25,7 +25,6 @@ use Rattle.procedure.specs.declared.message.Message.TheVariants.{Opening, Ordina
 use Rattle.procedure.specs.declared.message.Outcome.{Outcome}
 use Rattle.procedure.specs.declared.offer.Offer.{Offer}
 use Rattle.registration.specs.declared.row.Row.{Row}
-use Rattle.procedure.specs.declared.service.Preference.{Preference}
 use Rattle.procedure.specs.declared.service.Preference.TheVariants as own
 use Rattle.procedure.specs.declared.service.Service.{Service}
 use Rattle.slots.specs.declared.cover.Cover.TheVariants.{Clear}

@@ -1,5 +1,5 @@
 -- The proxy's state: its rows, and what it was opened with.
-use Rattle.std.specs.Prelude.{ℕ, min, Bool, false, cond, ◌||◌, List, [], ◌∷◌, length, set, slice_index_or, slice_set}
+use Rattle.std.specs.Prelude.{ℕ, min, Bool, false, cond, ◌||◌, List, [], ◌∷◌, length, slice_index_or, slice_set}
 use Rattle.association.specs.declared.set.Parameters.{Parameters}
 use Rattle.proxy.specs.declared.proxy.Proxy.{Proxy}
 use Rattle.procedure.specs.Offers.{serves}

@@ -4,9 +4,9 @@ use Rattle.proxy.proofs.proxy.Proxy.arrive.Goals as goal
 use Rattle.proxy.specs.Machine.{arriving}
 use Rattle.std.proofs.Common.{◌∙◌, rules}
 
-pub returns-in-err-new : goal.returns-in-err-new
+pub returns-in_err-new : goal.returns-in_err-new
 unfolding arriving asked
-returns-in-err-new g c =
+returns-in_err-new g c =
     record {
       machine = search rules;
       stays = search rules;
@@ -14,9 +14,9 @@ returns-in-err-new g c =
       wide = λ h. search rules ∙ arriving_wide_same (record { one = g.First.Integrity.mac; two = g.Second.Integrity.mac }) c.args.address c.args.packet.now c.args.message _ h;
     }
 
-pub returns-in-err-i : goal.returns-in-err-i
+pub returns-in_err-i : goal.returns-in_err-i
 unfolding arriving asked
-returns-in-err-i g c =
+returns-in_err-i g c =
     record {
       machine = search rules;
       stays = search rules;

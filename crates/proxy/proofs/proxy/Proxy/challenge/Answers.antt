@@ -4,9 +4,9 @@ use Rattle.proxy.proofs.proxy.Proxy.challenge.Goals as goal
 use Rattle.proxy.specs.Machine.{challenging}
 use Rattle.std.proofs.Common.{length, rules}
 
-pub returns-in-err-i : goal.returns-in-err-i
+pub returns-in_err-i : goal.returns-in_err-i
 unfolding challenging asked
-returns-in-err-i g c = record { machine = search rules; stays = search rules; housed = λ h. h }
+returns-in_err-i g c = record { machine = search rules; stays = search rules; housed = λ h. h }
 
 pub returns : goal.returns
 unfolding challenging asked

@@ -4,9 +4,9 @@ use Rattle.proxy.proofs.proxy.Proxy.deregister.Goals as goal
 use Rattle.proxy.specs.Machine.{deregistering}
 use Rattle.std.proofs.Common.{rules}
 
-pub returns-in-err-i : goal.returns-in-err-i
+pub returns-in_err-i : goal.returns-in_err-i
 unfolding deregistering asked
-returns-in-err-i c = record { machine = search rules; stays = search rules; housed = λ h. h }
+returns-in_err-i c = record { machine = search rules; stays = search rules; housed = λ h. h }
 
 pub returns : goal.returns
 unfolding deregistering asked

@@ -3,13 +3,13 @@ use Rattle.proxy.proofs.Tables.{hit, miss, none}
 use Rattle.proxy.proofs.proxy.Proxy.is_taken.Goals as goal
 use Rattle.std.proofs.Common.{rules}
 
-pub returns-then-has-pair : goal.returns-then-has-pair
-returns-then-has-pair c =
-    hit (pair_is c.args.address c.args.port) c.args.self.now.rows.now c.loop-row.row-index (search rules) c.loop-row.invariant c.if-has-pair.ensures
+pub returns-then-has_pair : goal.returns-then-has_pair
+returns-then-has_pair c =
+    hit (pair_is c.args.address c.args.port) c.args.self.now.rows.now c.loop-row.row-index (search rules) c.loop-row.invariant c.if-has_pair.ensures
 
 pub loop-row-preserved : goal.loop-row-preserved
 loop-row-preserved c =
-    miss (pair_is c.args.address c.args.port) c.args.self.now.rows.now c.loop-row.row-index (search rules) c.loop-row.invariant c.if-has-pair.ensures
+    miss (pair_is c.args.address c.args.port) c.args.self.now.rows.now c.loop-row.row-index (search rules) c.loop-row.invariant c.if-has_pair.ensures
 
 pub returns : goal.returns
 returns c =

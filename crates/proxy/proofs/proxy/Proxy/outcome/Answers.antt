@@ -1,15 +1,15 @@
-use Rattle.esp.specs.Asking.{ask}
+use Rattle.esp.specs.Asking.{asked}
 use Rattle.proxy.proofs.Housed.{housed_by, concluding_housed}
 use Rattle.proxy.proofs.proxy.Proxy.outcome.Goals as goal
 use Rattle.proxy.specs.Machine.{concluding}
 use Rattle.std.proofs.Common.{length, rules}
 
-pub returns-in-err-i : goal.returns-in-err-i
-unfolding concluding ask
-returns-in-err-i g c = record { machine = search rules; stays = search rules; housed = λ h. h }
+pub returns-in_err-i : goal.returns-in_err-i
+unfolding concluding asked
+returns-in_err-i g c = record { machine = search rules; stays = search rules; housed = λ h. h }
 
 pub returns : goal.returns
-unfolding concluding ask
+unfolding concluding asked
 returns g c =
     record {
       machine = search rules;

@@ -4,9 +4,9 @@ use Rattle.proxy.proofs.proxy.Proxy.refresh.Goals as goal
 use Rattle.proxy.specs.Machine.{refreshing}
 use Rattle.std.proofs.Common.{rules}
 
-pub returns-in-err-i : goal.returns-in-err-i
+pub returns-in_err-i : goal.returns-in_err-i
 unfolding refreshing asked
-returns-in-err-i c = record { machine = search rules; stays = search rules; housed = λ h. h }
+returns-in_err-i c = record { machine = search rules; stays = search rules; housed = λ h. h }
 
 pub returns : goal.returns
 unfolding refreshing asked
