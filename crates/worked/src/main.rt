@@ -8,6 +8,7 @@ use std::alloc::{AllocError, Global};
 use std::io;
 
 // How many answers were right, and how many were not.
+#[derive(Drop)]
 struct Tally {
     right: u32,
     wrong: u32,
