@@ -12,7 +12,6 @@ use Rattle.proxy.specs.State.{State, count_of}
 use Rattle.registration.specs.Receiving.{Heard}
 use Rattle.registration.specs.Rows.{blank}
 use Rattle.procedure.specs.declared.carrier.Sent.{Sent}
-use Rattle.procedure.specs.declared.chosen.Chosen.{Chosen}
 use Rattle.procedure.specs.declared.faults.Fault.{Fault}
 use Rattle.procedure.specs.declared.message.Message.{Message}
 use Rattle.replay_calls.specs.Packets.{packet_bytes}

@@ -6,9 +6,9 @@ use Rattle.script.specs.Reads.{Says}
 use Rattle.std.proofs.Common.{◌≡◌, Some, None, Err, vec_items, sym, ap, ◌∙◌, subst}
 use Rattle.std.specs.declared.alloc.Global.{Global}
 
-pub returns-in-ok-unread : goal.returns-in-ok-unread
-returns-in-ok-unread c =
-    let p = c.in-ok-unread.ensures in
+pub returns-in_ok-unread-in-Err : goal.returns-in_ok-unread-in-Err
+returns-in_ok-unread-in-Err c =
+    let p = c.in_ok-unread-in-Err.ensures in
     let none : line_of c.args.line.now ≡ None
     = subst (λ e. Says (line_by (vec_items {Z = Global})) (Err e) (line_of c.args.line.now)) p.0 c.in-Err.ensures in
     let w = c.args.window.now in
