@@ -1,5 +1,5 @@
 -- What the difference of two bytes says, and that of many bytes, joined by `|`.
-use Rattle.std.proofs.Common.{◌≡◌, ℕ, Bool, true, List, Decides, arith, rules}
+use Rattle.std.proofs.Common.{◌≡◌, ℕ, Bool, true, false, List, length, ap, ◌∙◌, Decides, arith, rules}
 use Rattle.std.proofs.lemmas.Slice.Eq.{bytes_eq-Decides}
 use Rattle.std.specs.Str.{bytes_eq}
 use lib.Bits.{bit_or, bit_xor, or_add_and, xor_add_and, and_le_l, and_le_r}
@@ -18,3 +18,7 @@ xor_none a b e = omega (arith, xor_add_and a b, and_le_l a b, and_le_r a b)
 -- a test that holds just where two lists of bytes are equal is `sameBytes`
 pub same_by : (xs ys : List ℕ) (r : Bool) → (r ≡ true → xs ≡ ys) → (xs ≡ ys → r ≡ true) → r ≡ bytes_eq xs ys
 same_by xs ys r to from = let h : Decides r (xs ≡ ys) = (to, from) in search (rules, bytes_eq-Decides)
+
+-- lists of different lengths are not the same
+pub other_length : (xs ys : List ℕ) → length ys ≡ 12 → (length xs ≡ 12 → ⊥) → false ≡ bytes_eq xs ys
+other_length xs ys due other = same_by xs ys false (λ (e : false ≡ true). cc) (λ e. absurd (other (ap length e ∙ due)))

@@ -30,6 +30,7 @@ pub trait Integrity {
 
 // Whether two tags are the same. Every byte is looked at whatever the ones before it say, so that the time taken
 // does not tell a forger how far a guess was right.
+#[tactic(auto, using(crate::proofs::Differences::other_length))]
 fn same(found: &[u8], due: &Tag) -> bool
     ensures { result ≡ bytes_eq found.now due.now }
 {

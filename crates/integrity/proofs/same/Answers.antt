@@ -1,14 +1,8 @@
-use Rattle.std.proofs.Common.{◌≡◌, ℕ, true, false, length, get_or, sym, ap, ◌∙◌, arith, below_more, eq-eqb, eqb-true}
+use Rattle.std.proofs.Common.{◌≡◌, ℕ, get_or, ap, arith, below_more, eq-eqb, eqb-true}
 use Rattle.integrity.proofs.Differences.{or_none_l, or_none_r, same_by, xor_none}
 use Rattle.integrity.proofs.same.Goals as goal
 use Rattle.std.proofs.lemmas.List.{ext_get_or}
 use lib.Bits.{bit_xor, xor_self}
-
-pub returns-then-found-ne12 : goal.returns-then-found-ne12
-returns-then-found-ne12 c =
-    same_by c.args.found.now c.args.due.now false
-    (λ (e : false ≡ true). let z : ◌≡◌ {A = ℕ} 0 1 = cc in absurd (omega arith))
-    (λ e. absurd (c.if-found-ne12.true (ap length e ∙ c.told-due)))
 
 pub loop-i-preserved : goal.loop-i-preserved
 loop-i-preserved c =
@@ -26,5 +20,5 @@ pub returns : goal.returns
 returns c =
     let d : ℕ = c.loop-i.difference in
     same_by c.args.found.now c.args.due.now _
-    (λ e. ext_get_or 0 _ _ (c.if-found-ne12.false ∙ sym c.told-due) (λ k h. c.loop-i.invariant.0 (eqb-true d 0 e) k (omega arith)))
+    (λ e. ext_get_or 0 _ _ (omega arith) (λ k h. c.loop-i.invariant.0 (eqb-true d 0 e) k (omega arith)))
     (λ e. eq-eqb d 0 (c.loop-i.invariant.1 e))
