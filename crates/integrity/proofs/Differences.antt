@@ -15,7 +15,7 @@ or_none_r a b e = omega (arith, or_add_and a b, and_le_l a b)
 pub xor_none : (a b : ℕ) → bit_xor a b ≡ 0 → a ≡ b
 xor_none a b e = omega (arith, xor_add_and a b, and_le_l a b, and_le_r a b)
 
--- a test that holds just where two lists of bytes are equal is `sameBytes`
+-- a test that holds just where two lists of bytes are equal is `bytes_eq`
 pub same_by : (xs ys : List ℕ) (r : Bool) → (r ≡ true → xs ≡ ys) → (xs ≡ ys → r ≡ true) → r ≡ bytes_eq xs ys
 same_by xs ys r to from = let h : Decides r (xs ≡ ys) = (to, from) in search (rules, bytes_eq-Decides)
 
