@@ -1,8 +1,8 @@
 #!/usr/bin/env python3
-"""Prints a random script that makes sense most of the time, to hold `replay` against the reference.
+"""Prints a random script that makes sense most of the time, to hold `replay_calls` against the reference.
 
     python3 tests/fuzz.py [SEED] [LINES] [--show] > script
-    target/bin/replay < script > theirs; python3 tests/reference_calls.py < script | diff - theirs
+    (cd crates/replay_calls && rt run) < script > theirs; python3 tests/reference_calls.py < script | diff - theirs
 
 The same seed gives the same script. A reference proxy runs along, so that the next line can follow from the
 state of the rows: an offer is challenged, a challenge is answered under the right key and number, the clock goes

@@ -1,6 +1,6 @@
 """The proxy itself, as a second implementation: tags, packets, rows and calls.
 
-Written from the documents alone, for tests/reference.py. It is kept unlike the program where it can be, so that
+Written from the documents alone, for tests/reference_calls.py. It is kept unlike the program where it can be, so that
 a slip on either side shows as a difference: the replay window is the set of the numbers recorded, a packet is
 taken apart by slices, and the set that a packet belongs to is looked for in the whole table.
 """

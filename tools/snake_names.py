@@ -1,7 +1,7 @@
 #!/usr/bin/env python3
 """Spells the repository's own definitions and lemmas in snake case, by the table snake_names.tsv beside it.
 
-    python3 tools/snake_names.py            in the repository, once, after /opt/rattle/port/port.py
+    python3 tools/snake_names.py            in the repository, once, after the kit's port.py
 
 A row is an old name and a new one; `name@path` holds in that file alone. Turned are the files of specs/ and proofs/, and in
 src/ the clauses, ghost lines and comments, since only they can hold such a name. Text in quotes stays, and so does what
