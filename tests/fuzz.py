@@ -16,7 +16,8 @@ import sys
 
 sys.dont_write_bytecode = True  # leave no __pycache__ in the repository
 
-from proxy import LAST_NUMBER, LAST_SECOND, tag_of
+from proxy import LAST_NUMBER, LAST_SECOND
+from reference import tag_of
 from reference_calls import BadLine, Replay
 
 ADDRESSES = ["20010db8000000000000000000000001", "20010db8000000000000000000000002",

@@ -1,17 +1,15 @@
-"""The proxy itself, as a second implementation: tags, packets, rows and calls.
+"""The proxy itself, as a second implementation: rows and calls, over the packets of tests/reference.py.
 
 Written from the documents alone, for tests/reference_calls.py. It is kept unlike the program where it can be, so that
-a slip on either side shows as a difference: the replay window is the set of the numbers recorded, a packet is
-taken apart by slices, and the set that a packet belongs to is looked for in the whole table.
+a slip on either side shows as a difference: the set that a packet belongs to is looked for in the whole table.
 """
 
-import hashlib
-import hmac
 import struct
 from collections import namedtuple
 
-UDP = 17
-DIGESTS = {1: hashlib.md5, 2: hashlib.sha1}
+import reference
+from reference import Fault, unseal
+
 LAST_NUMBER = 4294967295
 
 MOST_ROWS = 4096
@@ -28,24 +26,6 @@ NONE, OFFERED, CHALLENGED, ANSWERED = 0, 1, 2, 3  # the stages of a procedure
 CLEAR, OLD, CURRENT, REGISTRATION, NOTHING = 0, 1, 2, 3, 4  # what carries a message: in clear, a slot, nothing sent
 
 
-class Fault(Exception):
-    """A call was refused, with a number and a place."""
-
-    def __init__(self, number, place):
-        super().__init__(number, place)
-        self.number = number
-        self.place = place
-
-
-# --- the integrity algorithms -----------------------------------------------------------------------
-
-
-def tag_of(algorithm, ik, text):
-    """HMAC-MD5-96 (RFC 2403) or HMAC-SHA-1-96 (RFC 2404) of at most 4096 bytes."""
-    key = ik if algorithm == 1 else ik + bytes(4)
-    return hmac.new(key, text[:4096], DIGESTS[algorithm]).digest()[:12]
-
-
 # --- packets (RFC 2406, integrity only) -------------------------------------------------------------
 
 
@@ -59,41 +39,12 @@ def seal(algorithm, ik, spi, count, segment, area, place=0):
     check_segment(segment)
     if count >= LAST_NUMBER:
         raise Fault(26, place)
-    body = struct.pack(">II", spi, count + 1) + segment
-    pads = 0
-    while (len(segment) + pads + 2) % 4:
-        pads += 1
-    body += bytes(range(1, pads + 1)) + bytes([pads, UDP])
-    packet = body + tag_of(algorithm, ik, body)
-    if len(packet) > area:
-        raise Fault(17, area)
-    return packet, count + 1
+    return reference.seal(algorithm, ik, spi, count, segment, area)
 
 
 def check_packet(packet):
     if not 32 <= len(packet) <= 1424 or len(packet) % 4:
         raise Fault(11, len(packet))
-
-
-def unseal(algorithm, ik, spi, recorded, packet):
-    """The segment. Records the number in the set `recorded` once the tag is right."""
-    check_packet(packet)
-    found_spi, number = struct.unpack(">II", packet[:8])
-    if found_spi != spi:
-        raise Fault(21, 0)
-    highest = max(recorded, default=0)
-    if number < 1 or number + 64 <= highest or number in recorded:
-        raise Fault(12, 4)
-    body, tag = packet[:-12], packet[-12:]
-    if tag != tag_of(algorithm, ik, body):
-        raise Fault(13, len(packet) - 12)
-    recorded.add(number)
-    payload, pads, header = body[8:-2], body[-2], body[-1]
-    segment = payload[: len(payload) - pads] if pads <= len(payload) else b""
-    padding = payload[len(segment):]
-    if header != UDP or padding != bytes(range(1, pads + 1)) or not 8 <= len(segment) <= 1400:
-        raise Fault(14, len(packet) - 14)
-    return segment
 
 
 # --- the table --------------------------------------------------------------------------------------

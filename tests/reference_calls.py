@@ -1,12 +1,13 @@
 #!/usr/bin/env python3
-"""Answers a script as `replay` should, from the documents alone.
+"""Answers a script as `replay_calls` should, from the documents alone.
 
-Written apart from the crates, over Python's own hashlib and hmac, so that the expected output of `replay`
-in the gate does not come from `replay` itself:
+Written apart from the crates, over Python's own hashlib and hmac, so that the expected output of
+`replay_calls` in the gate does not come from the program itself:
 
     python3 tests/reference_calls.py < crates/replay_calls/stdin | diff - crates/replay_calls/stdout
 
-Here a line is read and an answer printed, by a table of the lines; tests/proxy.py beside it has the calls.
+Here a line is read and an answer printed, by a table of the lines; tests/proxy.py beside it has the calls, and
+tests/reference.py the packets.
 """
 
 import re
@@ -14,11 +15,8 @@ import sys
 
 sys.dont_write_bytecode = True  # leave no __pycache__ in the repository
 
-from proxy import DIGESTS, LAST_NUMBER, Fault, Offer, Proxy, seal, tag_of, unseal
-
-
-class BadLine(Exception):
-    """The line is not of the grammar."""
+from proxy import LAST_NUMBER, Offer, Proxy, seal
+from reference import DIGESTS, BadLine, Fault, data, key, tag_of, unseal
 
 
 # --- fields -----------------------------------------------------------------------------------------
@@ -39,21 +37,6 @@ def small(word):
 
 def half(word):
     return number(word, 65535)
-
-
-def data(word):
-    if word == b"-":
-        return b""
-    if not re.fullmatch(rb"([0-9a-fA-F]{2})+", word):
-        raise BadLine
-    return bytes.fromhex(word.decode())
-
-
-def key(word):
-    ik = data(word)
-    if len(ik) != 16:
-        raise BadLine
-    return ik
 
 
 def algorithm(word):

@@ -31,13 +31,13 @@ fn refused(heap: Global, call: CallName, fault: Fault) -> Result<String, AllocEr
 fn sent(
     heap: Global,
     call: CallName,
-    res: Result<Sent, Fault>,
+    answer: Result<Sent, Fault>,
     out: &[u8; 1424],
 ) -> Result<String, AllocError>
-    requires { bytes_of res ≤ 1424 }
-    ensures { IfOk result (λ t. string_bytes t ≡ sent_said call res (take (bytes_of res) out.now)) }
+    requires { bytes_of answer ≤ 1424 }
+    ensures { IfOk result (λ t. string_bytes t ≡ sent_said call answer (take (bytes_of answer) out.now)) }
 {
-    match res {
+    match answer {
         Ok(sent) => {
             let bytes = sent.bytes;
             let carrier = sent.carrier;

@@ -34,8 +34,8 @@ fn refused(heap: Global, fault: Fault) -> Result<String, AllocError> {
     format!(in heap; "fault {number}, place {place}")
 }
 
-fn chosen(heap: Global, res: Result<Chosen, Fault>) -> Result<String, AllocError> {
-    match res {
+fn chosen(heap: Global, answer: Result<Chosen, Fault>) -> Result<String, AllocError> {
+    match answer {
         Ok(chosen) => {
             let algorithm = chosen.algorithm.number();
             let spi = chosen.spi;
@@ -45,8 +45,8 @@ fn chosen(heap: Global, res: Result<Chosen, Fault>) -> Result<String, AllocError
     }
 }
 
-fn sent(heap: Global, res: Result<Sent, Fault>) -> Result<String, AllocError> {
-    match res {
+fn sent(heap: Global, answer: Result<Sent, Fault>) -> Result<String, AllocError> {
+    match answer {
         Ok(sent) => {
             let bytes = sent.bytes;
             let carrier = sent.carrier.number();
