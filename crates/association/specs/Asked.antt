@@ -3,6 +3,7 @@ use Rattle.std.specs.Prelude.{ℕ, Bool, ◌&&◌, ◌||◌, ◌==◌}
 use Rattle.association.specs.declared.set.Parameters.{Parameters}
 use Rattle.association.specs.declared.set.Set.{Set}
 use Rattle.esp.specs.Window.{empty}
+use Rattle.esp.specs.declared.association.Association.{Association}
 
 -- an address: its high and its low 64 bits
 abbrev pub Address : Type 0
@@ -23,3 +24,10 @@ spi_is spi x = x.spi == spi || x.own_spi == spi
 -- a new set has sent nothing and taken nothing
 abbrev pub fresh : Parameters → ℕ → Set
 fresh p e = record { parameters = p; expiry = e; sent = 0; window = empty }
+
+-- the two associations of a set: packets to the handset name its own SPI, packets from it the proxy's
+abbrev pub outbound : Parameters → Association
+outbound x = record { algorithm = x.algorithm; ik = x.ik; spi = x.spi }
+
+abbrev pub inbound : Parameters → Association
+inbound x = record { algorithm = x.algorithm; ik = x.ik; spi = x.own_spi }

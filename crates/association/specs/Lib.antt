@@ -1,4 +1,3 @@
-pub mod Algorithms
 pub mod Faults
 pub mod Ports
 pub mod Expiry

@@ -1,6 +1,6 @@
 -- Opening a packet by a set.
 use Rattle.std.specs.Prelude.{ℕ, ◌&&◌, List, Ok, Err, Result, ◌==◌}
-use Rattle.association.specs.Algorithms.{Macs, mac_by}
+use Rattle.integrity.specs.Algorithms.{Macs, mac_by}
 use Rattle.association.specs.Ports.{destination_of, source_of}
 use Rattle.association.specs.declared.faults.Fault.{Fault}
 use Rattle.association.specs.declared.faults.Fault.TheVariants.{ArrivingPorts, Packet}

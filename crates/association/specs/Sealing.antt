@@ -1,6 +1,6 @@
 -- The sending questions where a segment goes by a set.
 use Rattle.std.specs.Prelude.{ℕ, List, [], length, Ok, Err, Result, ◌==◌, nat_lt}
-use Rattle.association.specs.Algorithms.{Macs, mac_by}
+use Rattle.integrity.specs.Algorithms.{Macs, mac_by}
 use Rattle.association.specs.Ports.{destination_of}
 use Rattle.association.specs.declared.faults.Fault.{Fault}
 use Rattle.association.specs.declared.faults.Fault.TheVariants.{CounterSpent, Packet, SendingPort}

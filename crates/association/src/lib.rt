@@ -3,14 +3,12 @@
 #![tactic(auto)]
 
 mod address;
-mod algorithm;
 mod faults;
 mod ports;
 mod set;
 mod sets;
 
 pub use address::Address;
-pub use algorithm::{Algorithm, open_by, seal_by, tag_by};
 pub use faults::Fault;
 pub use ports::{destination_port, source_port};
 pub use set::{Parameters, Set};

@@ -1,12 +1,12 @@
 // A set of associations.
+ghost use Rattle.association.specs.Asked.{inbound, outbound};
 ghost use Rattle.association.specs.Expiry.{expiry_of, lasting as lasting_to};
 ghost use Rattle.std.specs.Prelude.{◌≡◌};
 ghost use Rattle.std.proofs.Common.{rules};
 
 use crate::address::Address;
-use crate::algorithm::Algorithm;
-use esp::ReplayWindow;
-use integrity::Ik;
+use esp::{Association, ReplayWindow};
+use integrity::{Algorithm, Ik};
 use slots::Expiring;
 
 // What of a set never changes.
@@ -20,6 +20,30 @@ pub struct Parameters {
     pub own_spi: u32,
     pub algorithm: Algorithm,
     pub ik: Ik,
+}
+
+impl Parameters {
+    // The association by which segments go to the handset: its packets name the handset's SPI.
+    pub fn outbound(&self) -> Association
+        ensures { result ≡ outbound self.now }
+    {
+        Association {
+            algorithm: self.algorithm,
+            ik: self.ik,
+            spi: self.spi,
+        }
+    }
+
+    // The association by which packets come from the handset: they name the proxy's SPI.
+    pub fn inbound(&self) -> Association
+        ensures { result ≡ inbound self.now }
+    {
+        Association {
+            algorithm: self.algorithm,
+            ik: self.ik,
+            spi: self.own_spi,
+        }
+    }
 }
 
 #[derive(Clone, Copy)]

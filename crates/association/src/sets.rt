@@ -5,12 +5,10 @@ ghost use Rattle.association.specs.Sealing.{leaves, sealed_by};
 ghost use Rattle.std.specs.Prelude.{◌≡◌, length};
 
 use crate::address::Address;
-use crate::algorithm::{open_by, seal_by};
 use crate::faults::Fault;
 use crate::ports::{destination_port, source_port};
 use crate::set::{Parameters, Set};
-use esp::{ReplayWindow, Segment};
-use integrity::Integrity;
+use esp::{Association, ReplayWindow, Segment, Suite};
 use slots::Slot;
 
 impl Set {
@@ -30,18 +28,14 @@ impl Set {
     pub fn is_at(&self, address: Address, port: u16) -> bool
         ensures { result ≡ pair_is address port self.now.parameters }
     {
-        self.parameters.address.0 == address.0
-            && self.parameters.address.1 == address.1
-            && self.parameters.port == port
+        self.parameters.address == address && self.parameters.port == port
     }
 
     // Whether packets from this address to this SPI are its own.
     pub fn takes(&self, address: Address, spi: u32) -> bool
         ensures { result ≡ own_is address spi self.now.parameters }
     {
-        self.parameters.address.0 == address.0
-            && self.parameters.address.1 == address.1
-            && self.parameters.own_spi == spi
+        self.parameters.address == address && self.parameters.own_spi == spi
     }
 
     // Whether an SPI is one of its two.
@@ -52,13 +46,13 @@ impl Set {
     }
 
     // Seals a segment for the handset. The set stands in `slot`.
-    pub fn seal<First: Integrity, Second: Integrity>(
+    pub fn seal<S: Suite>(
         &mut self,
         slot: Slot,
         segment: &[u8],
         out: &mut [u8],
     ) -> Result<usize, Fault>
-        ensures { (self.new, result, out.new) ≡ leaves (sealed_by (record { one = First.Integrity.mac; two = Second.Integrity.mac }) slot segment.now (length out.old) self.old) out.old }
+        ensures { (self.new, result, out.new) ≡ leaves (sealed_by S.Suite.macs slot segment.now (length out.old) self.old) out.old }
     {
         if esp::sealed_len(segment.len()).is_none() {
             return Err(Fault::Packet(esp::Fault::SegmentLength(segment.len())));
@@ -69,32 +63,19 @@ impl Set {
         if self.sent >= u32::MAX {
             return Err(Fault::CounterSpent(slot));
         }
-        let n = seal_by::<First, Second>(
-            self.parameters.algorithm,
-            &self.parameters.ik,
-            self.parameters.spi,
-            &mut self.sent,
-            segment,
-            out,
-        )?;
+        let n = S::seal(&self.parameters.outbound(), &mut self.sent, segment, out)?;
         Ok(n)
     }
 
     // Opens a packet from the handset to the protected port.
-    pub fn open<'a, First: Integrity, Second: Integrity>(
+    pub fn open<'a, S: Suite>(
         &mut self,
         port: u16,
         packet: &'a [u8],
     ) -> Result<Segment<'a>, Fault>
-        ensures { (self.new, seen result) ≡ opened_by (record { one = First.Integrity.mac; two = Second.Integrity.mac }) port packet.now self.old }
+        ensures { (self.new, seen result) ≡ opened_by S.Suite.macs port packet.now self.old }
     {
-        let segment = open_by::<First, Second>(
-            self.parameters.algorithm,
-            &self.parameters.ik,
-            self.parameters.own_spi,
-            &mut self.window,
-            packet,
-        )?;
+        let segment = S::open(&self.parameters.inbound(), &mut self.window, packet)?;
         if source_port(segment.bytes) != self.parameters.port
             || destination_port(segment.bytes) != port
         {

@@ -7,6 +7,10 @@
 ghost use Rattle.std.specs.Prelude.{◌≡◌, ℕ, List, length, take};
 ghost use Rattle.std.specs.Str.{bytes_eq};
 
+mod algorithm;
+
+pub use algorithm::{Algorithm, UnknownAlgorithm};
+
 // The integrity key that authentication and key agreement gave the handset and the network.
 pub type Ik = [u8; 16];
 

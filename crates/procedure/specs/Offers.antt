@@ -1,8 +1,8 @@
 -- Offers, and the proxy's own list of algorithms.
 use Rattle.std.specs.Prelude.{ℕ, Bool, true, false, cond, not, ◌&&◌, ◌||◌, List, [], ◌∷◌, Some, None, Option, ◌==◌, nat_le}
-use Rattle.association.specs.Algorithms.{algorithm_number}
-use Rattle.association.specs.declared.algorithm.Algorithm.{Algorithm}
-use Rattle.association.specs.declared.algorithm.Algorithm.TheVariants.{One, Two}
+use Rattle.integrity.specs.Algorithms.{algorithm_number}
+use Rattle.integrity.specs.declared.algorithm.Algorithm.{Algorithm}
+use Rattle.integrity.specs.declared.algorithm.Algorithm.TheVariants.{One, Two}
 use Rattle.procedure.specs.declared.offer.Offer.{Offer}
 use Rattle.procedure.specs.declared.service.Preference.{Preference}
 use Rattle.procedure.specs.declared.service.Preference.TheVariants as own

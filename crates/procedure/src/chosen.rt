@@ -1,5 +1,5 @@
 // What the proxy chose for an offer.
-use association::Algorithm;
+use integrity::Algorithm;
 
 #[derive(Clone, Copy)]
 pub struct Chosen {

@@ -2,7 +2,7 @@
 ghost use Rattle.procedure.specs.Offers.{offer_has, offer_right, same_offer};
 ghost use Rattle.std.specs.Prelude.{◌≡◌};
 
-use association::Algorithm;
+use integrity::Algorithm;
 
 #[derive(Clone, Copy)]
 pub struct Offer {

@@ -3,7 +3,7 @@ ghost use Rattle.procedure.specs.Offers.{common, listed, serves};
 ghost use Rattle.std.specs.Prelude.{◌≡◌};
 
 use crate::offer::Offer;
-use association::Algorithm;
+use integrity::Algorithm;
 
 // The algorithms that the proxy takes, the preferred one first.
 #[derive(Clone, Copy)]

@@ -3,7 +3,8 @@ ghost use Rattle.procedure.specs.Stages.{phase_number, phase_of};
 ghost use Rattle.std.specs.Prelude.{◌≡◌};
 
 use crate::offer::Offer;
-use association::{Address, Algorithm};
+use association::Address;
+use integrity::Algorithm;
 use slots::Cover;
 
 // What a procedure keeps of its opening REGISTER.

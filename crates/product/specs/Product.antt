@@ -1,5 +1,5 @@
 -- The product's two algorithms.
-use Rattle.association.specs.Algorithms.{Macs}
+use Rattle.integrity.specs.Algorithms.{Macs}
 use Rattle.hmac.specs.Algorithms.{hmac_md5_tag, hmac_sha1_tag}
 use Rattle.product.specs.declared.pcscf.Pcscf.{Pcscf}
 use Rattle.proxy.specs.State.{State, state_of}

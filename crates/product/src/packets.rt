@@ -1,46 +1,46 @@
 // The packet layer over the product's algorithms.
-ghost use Rattle.association.specs.Algorithms.{mac_by};
 ghost use Rattle.esp.specs.Opening.{opening, shown};
 ghost use Rattle.esp.specs.Sealing.{laid, sealing};
+ghost use Rattle.integrity.specs.Algorithms.{mac_by};
 ghost use Rattle.product.specs.Product.{macs};
 ghost use Rattle.std.specs.Prelude.{◌≡◌, length, take, IfOk};
 
-use association::{Algorithm, open_by, seal_by, tag_by};
-use esp::{Fault, ReplayWindow, Segment};
+use esp::{Association, Fault, ReplayWindow, Segment, Suite};
 use hmac::{HmacMd5, HmacSha1};
-use integrity::{Ik, Tag};
+use integrity::{Algorithm, Ik, Tag};
+
+// The product's two algorithms: 1 is HMAC-MD5-96, 2 is HMAC-SHA-1-96.
+pub type Hmacs = (HmacMd5, HmacSha1);
 
 pub fn tag(algorithm: Algorithm, ik: &Ik, text: &[u8]) -> Tag
     ensures { result ≡ mac_by macs algorithm ik.now (take 4096 text.now) }
 {
-    tag_by::<HmacMd5, HmacSha1>(algorithm, ik, text)
+    Hmacs::tag(algorithm, ik, text)
 }
 
+// Seals a segment into the front of an area.
 pub fn seal(
-    algorithm: Algorithm,
-    ik: &Ik,
-    spi: u32,
+    to: &Association,
     counter: &mut u32,
     segment: &[u8],
     out: &mut [u8],
 ) -> Result<usize, Fault>
-    ensures result { result ≡ (sealing (mac_by macs algorithm) ik.now spi counter.old segment.now (length out.old)).result }
-    ensures count { counter.new ≡ (sealing (mac_by macs algorithm) ik.now spi counter.old segment.now (length out.old)).counter }
-    ensures area { out.new ≡ laid (sealing (mac_by macs algorithm) ik.now spi counter.old segment.now (length out.old)).written out.old }
-    ensures wrote { IfOk result (λ n. n ≡ length (sealing (mac_by macs algorithm) ik.now spi counter.old segment.now (length out.old)).written) }
+    ensures result { result ≡ (sealing (mac_by macs to.now.algorithm) to.now.ik to.now.spi counter.old segment.now (length out.old)).result }
+    ensures count { counter.new ≡ (sealing (mac_by macs to.now.algorithm) to.now.ik to.now.spi counter.old segment.now (length out.old)).counter }
+    ensures area { out.new ≡ laid (sealing (mac_by macs to.now.algorithm) to.now.ik to.now.spi counter.old segment.now (length out.old)).written out.old }
+    ensures wrote { IfOk result (λ n. n ≡ length (sealing (mac_by macs to.now.algorithm) to.now.ik to.now.spi counter.old segment.now (length out.old)).written) }
 {
-    seal_by::<HmacMd5, HmacSha1>(algorithm, ik, spi, counter, segment, out)
+    Hmacs::seal(to, counter, segment, out)
 }
 
+// Opens a packet, and answers its segment as a part of it.
 pub fn open<'a>(
-    algorithm: Algorithm,
-    ik: &Ik,
-    spi: u32,
+    from: &Association,
     window: &mut ReplayWindow,
     packet: &'a [u8],
 ) -> Result<Segment<'a>, Fault>
-    ensures result { shown result ≡ (opening (mac_by macs algorithm) ik.now spi window.old packet.now).result }
-    ensures window { window.new ≡ (opening (mac_by macs algorithm) ik.now spi window.old packet.now).window }
+    ensures result { shown result ≡ (opening (mac_by macs from.now.algorithm) from.now.ik from.now.spi window.old packet.now).result }
+    ensures window { window.new ≡ (opening (mac_by macs from.now.algorithm) from.now.ik from.now.spi window.old packet.now).window }
 {
-    open_by::<HmacMd5, HmacSha1>(algorithm, ik, spi, window, packet)
+    Hmacs::open(from, window, packet)
 }

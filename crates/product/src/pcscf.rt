@@ -6,8 +6,8 @@ ghost use Rattle.proxy.specs.Machine.{answered, arriving, arriving_wide, challen
 ghost use Rattle.proxy.specs.State.{count_of};
 ghost use Rattle.registration.specs.Receiving.{heard_of};
 
+use crate::packets::Hmacs;
 use association::Address;
-use hmac::{HmacMd5, HmacSha1};
 use integrity::Ik;
 use procedure::{Arrived, Chosen, Fault, Message, Offer, Outcome, Sent};
 use proxy::Proxy;
@@ -69,7 +69,7 @@ impl<'a> Pcscf<'a> {
         ensures housed { Housed (state_in self.old) → Housed (state_in self.new) }
     {
         self.proxy
-            .challenge::<HmacMd5, HmacSha1>(subscriber, ik, segment, out)
+            .challenge::<Hmacs>(subscriber, ik, segment, out)
     }
 
     // The same as into an area of `area` bytes.
@@ -86,7 +86,7 @@ impl<'a> Pcscf<'a> {
         ensures housed { Housed (state_in self.old) → Housed (state_in self.new) }
     {
         self.proxy
-            .challenge_within::<HmacMd5, HmacSha1>(subscriber, ik, segment, area, out)
+            .challenge_within::<Hmacs>(subscriber, ik, segment, area, out)
     }
 
     // A packet from an address, with what its message is.
@@ -101,7 +101,7 @@ impl<'a> Pcscf<'a> {
         ensures wide { Housed (state_in self.old) → (state_in self.new, heard_of result) ≡ arriving_wide macs address packet.now message (state_in self.old) }
     {
         self.proxy
-            .arrive::<HmacMd5, HmacSha1>(address, packet, message)
+            .arrive::<Hmacs>(address, packet, message)
     }
 
     // The outcome of a subscriber's registration.
@@ -116,7 +116,7 @@ impl<'a> Pcscf<'a> {
         ensures housed { Housed (state_in self.old) → Housed (state_in self.new) }
     {
         self.proxy
-            .outcome::<HmacMd5, HmacSha1>(subscriber, outcome, segment, out)
+            .outcome::<Hmacs>(subscriber, outcome, segment, out)
     }
 
     // The same as into an area of `area` bytes.
@@ -133,7 +133,7 @@ impl<'a> Pcscf<'a> {
         ensures housed { Housed (state_in self.old) → Housed (state_in self.new) }
     {
         self.proxy
-            .outcome_within::<HmacMd5, HmacSha1>(subscriber, outcome, segment, area, out)
+            .outcome_within::<Hmacs>(subscriber, outcome, segment, area, out)
     }
 
     // A message to a subscriber.
@@ -142,7 +142,7 @@ impl<'a> Pcscf<'a> {
         ensures housed { Housed (state_in self.old) → Housed (state_in self.new) }
     {
         self.proxy
-            .send::<HmacMd5, HmacSha1>(subscriber, segment, out)
+            .send::<Hmacs>(subscriber, segment, out)
     }
 
     // The same as into an area of `area` bytes.
@@ -158,7 +158,7 @@ impl<'a> Pcscf<'a> {
         ensures housed { Housed (state_in self.old) → Housed (state_in self.new) }
     {
         self.proxy
-            .send_within::<HmacMd5, HmacSha1>(subscriber, segment, area, out)
+            .send_within::<Hmacs>(subscriber, segment, area, out)
     }
 
     // Raises the expiry of a subscriber's current set.

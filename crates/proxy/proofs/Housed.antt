@@ -1,6 +1,6 @@
 -- Opening puts every set into the row of its block, and every call keeps it there.
 use Rattle.std.proofs.Common.{◌≡◌, ℕ, zero, suc, ◌+◌, ◌<◌, ◌≤◌, min, Bool, true, false, cond, ◌&&◌, ◌||◌, eqb, ltb, leb, List, map, length, get_or, set, Some, None, Err, Option, Result, sym, refl, ap, ◌∙◌, subst, inl, inr, arith, length-set}
-use Rattle.association.specs.Algorithms.{Macs}
+use Rattle.integrity.specs.Algorithms.{Macs}
 use Rattle.association.specs.Asked.{Address, own_is}
 use Rattle.association.specs.declared.faults.Fault.TheVariants.{NoSet}
 use Rattle.association.specs.declared.set.Parameters.{Parameters}

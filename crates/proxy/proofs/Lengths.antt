@@ -1,7 +1,7 @@
 -- Output areas that are given by their lengths.
 use Rattle.std.proofs.Common.{◌≡◌, ℕ, ◌-◌, ◌≤◌, min, ltb, List, [], length, take, IfOk, Err, Result, sym, ap, ◌∙◌, subst, arith}
-use Rattle.association.specs.Algorithms.{Mac, Macs}
-use Rattle.association.specs.declared.algorithm.Algorithm.TheVariants.{One, Two}
+use Rattle.integrity.specs.Algorithms.{Mac, Macs}
+use Rattle.integrity.specs.declared.algorithm.Algorithm.TheVariants.{One, Two}
 use Rattle.esp.proofs.Asks.{ask_both}
 use Rattle.esp.proofs.Rooms.{front_of}
 use Rattle.esp.specs.Asking.{asked}

@@ -1,6 +1,6 @@
 -- The machine: opening, and each call as an act on one row that learns of the rest of the table a single bit.
 use Rattle.std.specs.Prelude.{ℕ, suc, ◌-◌, ◌/◌, Bool, false, cond, not, ◌&&◌, List, [], ◌∷◌, map, length, Some, None, Ok, Err, Option, Result, ◌==◌, nat_le, nat_lt, slice_set}
-use Rattle.association.specs.Algorithms.{Macs}
+use Rattle.integrity.specs.Algorithms.{Macs}
 use Rattle.association.specs.Asked.{Address, own_is, pair_is}
 use Rattle.association.specs.declared.faults.Fault.TheVariants.{NoSet, Packet}
 use Rattle.association.specs.declared.set.Parameters.{Parameters}

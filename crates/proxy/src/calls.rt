@@ -8,7 +8,8 @@ ghost use Rattle.std.specs.Prelude.{◌≡◌, length};
 use crate::proxy::Proxy;
 use association::Address;
 use esp::PacketReader;
-use integrity::{Ik, Integrity};
+use esp::Suite;
+use integrity::Ik;
 use procedure::{Arrived, Chosen, Fault, Message, Offer, Outcome, Sent};
 use slots::Cover;
 
@@ -49,39 +50,39 @@ impl Proxy<'_> {
     }
 
     // The challenge to a subscriber, with the IK that it brings. Answers the bytes written and what they go by.
-    pub fn challenge<First: Integrity, Second: Integrity>(
+    pub fn challenge<S: Suite>(
         &mut self,
         subscriber: u32,
         ik: &Ik,
         segment: &[u8],
         out: &mut [u8],
     ) -> Result<Sent, Fault>
-        ensures machine { (state_of self.new, result, out.new) ≡ leaves (challenging (record { one = First.Integrity.mac; two = Second.Integrity.mac }) subscriber ik.now segment.now (length out.old) (state_of self.old)) out.old }
+        ensures machine { (state_of self.new, result, out.new) ≡ leaves (challenging S.Suite.macs subscriber ik.now segment.now (length out.old) (state_of self.old)) out.old }
         ensures stays { self.new.rows.ghost_name ≡ self.old.rows.ghost_name }
         ensures housed { Housed (state_of self.old) → Housed (state_of self.new) }
     {
         let i = self.row_of(subscriber)?;
         let taken = self.is_taken_for(i);
-        self.rows[i].challenge::<First, Second>(self.service, taken, ik, segment, out)
+        self.rows[i].challenge::<S>(self.service, taken, ik, segment, out)
     }
 
     // A packet from an address, with what its message is. Answers the subscriber, the slot of the set that it came on
     // and the segment, and to an opening REGISTER also the algorithm and the proxy's SPI.
-    pub fn arrive<'b, First: Integrity, Second: Integrity>(
+    pub fn arrive<'b, S: Suite>(
         &mut self,
         address: Address,
         packet: &'b [u8],
         message: Message,
     ) -> Result<Arrived<'b>, Fault>
-        ensures machine { (state_of self.new, heard_of result) ≡ arriving (record { one = First.Integrity.mac; two = Second.Integrity.mac }) address packet.now message (state_of self.old) }
+        ensures machine { (state_of self.new, heard_of result) ≡ arriving S.Suite.macs address packet.now message (state_of self.old) }
         ensures stays { self.new.rows.ghost_name ≡ self.old.rows.ghost_name }
         ensures housed { Housed (state_of self.old) → Housed (state_of self.new) }
-        ensures wide { Housed (state_of self.old) → (state_of self.new, heard_of result) ≡ arriving_wide (record { one = First.Integrity.mac; two = Second.Integrity.mac }) address packet.now message (state_of self.old) }
+        ensures wide { Housed (state_of self.old) → (state_of self.new, heard_of result) ≡ arriving_wide S.Suite.macs address packet.now message (state_of self.old) }
     {
         let spi = PacketReader::new(packet)?.spi();
         let i = self.home_of(spi)?;
         let taken = self.is_taken_by(address, message);
-        self.rows[i].receive::<First, Second>(
+        self.rows[i].receive::<S>(
             self.service,
             i as u16,
             taken,
@@ -93,34 +94,34 @@ impl Proxy<'_> {
     }
 
     // The outcome of a subscriber's registration. Answers the bytes written and what they go by.
-    pub fn outcome<First: Integrity, Second: Integrity>(
+    pub fn outcome<S: Suite>(
         &mut self,
         subscriber: u32,
         outcome: Outcome,
         segment: &[u8],
         out: &mut [u8],
     ) -> Result<Sent, Fault>
-        ensures machine { (state_of self.new, result, out.new) ≡ leaves (concluding (record { one = First.Integrity.mac; two = Second.Integrity.mac }) subscriber outcome segment.now (length out.old) (state_of self.old)) out.old }
+        ensures machine { (state_of self.new, result, out.new) ≡ leaves (concluding S.Suite.macs subscriber outcome segment.now (length out.old) (state_of self.old)) out.old }
         ensures stays { self.new.rows.ghost_name ≡ self.old.rows.ghost_name }
         ensures housed { Housed (state_of self.old) → Housed (state_of self.new) }
     {
         let i = self.row_of(subscriber)?;
-        self.rows[i].conclude::<First, Second>(self.service, outcome, segment, out)
+        self.rows[i].conclude::<S>(self.service, outcome, segment, out)
     }
 
     // A message to a subscriber. Answers the bytes written and what they go by.
-    pub fn send<First: Integrity, Second: Integrity>(
+    pub fn send<S: Suite>(
         &mut self,
         subscriber: u32,
         segment: &[u8],
         out: &mut [u8],
     ) -> Result<Sent, Fault>
-        ensures machine { (state_of self.new, result, out.new) ≡ leaves (sending (record { one = First.Integrity.mac; two = Second.Integrity.mac }) subscriber segment.now (length out.old) (state_of self.old)) out.old }
+        ensures machine { (state_of self.new, result, out.new) ≡ leaves (sending S.Suite.macs subscriber segment.now (length out.old) (state_of self.old)) out.old }
         ensures stays { self.new.rows.ghost_name ≡ self.old.rows.ghost_name }
         ensures housed { Housed (state_of self.old) → Housed (state_of self.new) }
     {
         let i = self.row_of(subscriber)?;
-        self.rows[i].send::<First, Second>(segment, out)
+        self.rows[i].send::<S>(segment, out)
     }
 
     // Raises the expiry of a subscriber's current set. Answers the expiry.

@@ -7,12 +7,13 @@ ghost use Rattle.proxy.specs.State.{state_of};
 
 use crate::proxy::Proxy;
 use esp::LONGEST_PACKET;
-use integrity::{Ik, Integrity};
+use esp::Suite;
+use integrity::Ik;
 use procedure::{Fault, Outcome, Sent};
 
 impl Proxy<'_> {
     // The challenge to a subscriber, as into an area of `area` bytes.
-    pub fn challenge_within<First: Integrity, Second: Integrity>(
+    pub fn challenge_within<S: Suite>(
         &mut self,
         subscriber: u32,
         ik: &Ik,
@@ -20,17 +21,17 @@ impl Proxy<'_> {
         area: u32,
         out: &mut [u8; 1424],
     ) -> Result<Sent, Fault>
-        ensures machine { (state_of self.new, result) ≡ answered (challenging (record { one = First.Integrity.mac; two = Second.Integrity.mac }) subscriber ik.now segment.now area (state_of self.old)) }
-        ensures wrote { IfOk result (λ s. (s.bytes ≤ 1424) × (take s.bytes out.new ≡ (challenging (record { one = First.Integrity.mac; two = Second.Integrity.mac }) subscriber ik.now segment.now area (state_of self.old)).written)) }
+        ensures machine { (state_of self.new, result) ≡ answered (challenging S.Suite.macs subscriber ik.now segment.now area (state_of self.old)) }
+        ensures wrote { IfOk result (λ s. (s.bytes ≤ 1424) × (take s.bytes out.new ≡ (challenging S.Suite.macs subscriber ik.now segment.now area (state_of self.old)).written)) }
         ensures stays { self.new.rows.ghost_name ≡ self.old.rows.ghost_name }
         ensures housed { Housed (state_of self.old) → Housed (state_of self.new) }
     {
         let room = LONGEST_PACKET.min(area as usize);
-        self.challenge::<First, Second>(subscriber, ik, segment, &mut out[0..room])
+        self.challenge::<S>(subscriber, ik, segment, &mut out[0..room])
     }
 
     // The outcome of a registration, as into an area of `area` bytes.
-    pub fn outcome_within<First: Integrity, Second: Integrity>(
+    pub fn outcome_within<S: Suite>(
         &mut self,
         subscriber: u32,
         outcome: Outcome,
@@ -38,29 +39,29 @@ impl Proxy<'_> {
         area: u32,
         out: &mut [u8; 1424],
     ) -> Result<Sent, Fault>
-        ensures machine { (state_of self.new, result) ≡ answered (concluding (record { one = First.Integrity.mac; two = Second.Integrity.mac }) subscriber outcome segment.now area (state_of self.old)) }
-        ensures wrote { IfOk result (λ s. (s.bytes ≤ 1424) × (take s.bytes out.new ≡ (concluding (record { one = First.Integrity.mac; two = Second.Integrity.mac }) subscriber outcome segment.now area (state_of self.old)).written)) }
+        ensures machine { (state_of self.new, result) ≡ answered (concluding S.Suite.macs subscriber outcome segment.now area (state_of self.old)) }
+        ensures wrote { IfOk result (λ s. (s.bytes ≤ 1424) × (take s.bytes out.new ≡ (concluding S.Suite.macs subscriber outcome segment.now area (state_of self.old)).written)) }
         ensures stays { self.new.rows.ghost_name ≡ self.old.rows.ghost_name }
         ensures housed { Housed (state_of self.old) → Housed (state_of self.new) }
     {
         let room = LONGEST_PACKET.min(area as usize);
-        self.outcome::<First, Second>(subscriber, outcome, segment, &mut out[0..room])
+        self.outcome::<S>(subscriber, outcome, segment, &mut out[0..room])
     }
 
     // A message to a subscriber, as into an area of `area` bytes.
-    pub fn send_within<First: Integrity, Second: Integrity>(
+    pub fn send_within<S: Suite>(
         &mut self,
         subscriber: u32,
         segment: &[u8],
         area: u32,
         out: &mut [u8; 1424],
     ) -> Result<Sent, Fault>
-        ensures machine { (state_of self.new, result) ≡ answered (sending (record { one = First.Integrity.mac; two = Second.Integrity.mac }) subscriber segment.now area (state_of self.old)) }
-        ensures wrote { IfOk result (λ s. (s.bytes ≤ 1424) × (take s.bytes out.new ≡ (sending (record { one = First.Integrity.mac; two = Second.Integrity.mac }) subscriber segment.now area (state_of self.old)).written)) }
+        ensures machine { (state_of self.new, result) ≡ answered (sending S.Suite.macs subscriber segment.now area (state_of self.old)) }
+        ensures wrote { IfOk result (λ s. (s.bytes ≤ 1424) × (take s.bytes out.new ≡ (sending S.Suite.macs subscriber segment.now area (state_of self.old)).written)) }
         ensures stays { self.new.rows.ghost_name ≡ self.old.rows.ghost_name }
         ensures housed { Housed (state_of self.old) → Housed (state_of self.new) }
     {
         let room = LONGEST_PACKET.min(area as usize);
-        self.send::<First, Second>(subscriber, segment, &mut out[0..room])
+        self.send::<S>(subscriber, segment, &mut out[0..room])
     }
 }

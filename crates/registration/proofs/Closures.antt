@@ -1,12 +1,12 @@
 -- Each call keeps what holds throughout a row, if it holds of what an opening REGISTER leaves and of what a challenge
 -- makes of it.
 use Rattle.std.proofs.Common.{◌≡◌, ℕ, ◌+◌, Bool, eqb, ltb, leb, List, is_some, Some, None, Ok, Err, Option, Result, sym, refl, subst}
-use Rattle.association.specs.Algorithms.{Macs}
+use Rattle.integrity.specs.Algorithms.{Macs}
 use Rattle.association.specs.Asked.{Address, own_is}
 use Rattle.association.specs.Expiry.{expiry_of, lasting}
 use Rattle.association.specs.Opening.{opened_by}
 use Rattle.association.specs.Sealing.{Sealed, sealed_by}
-use Rattle.association.specs.declared.algorithm.Algorithm.{Algorithm}
+use Rattle.integrity.specs.declared.algorithm.Algorithm.{Algorithm}
 use Rattle.association.specs.declared.faults.Fault as association
 use Rattle.association.specs.declared.set.Parameters.{Parameters}
 use Rattle.association.specs.declared.set.Set.{Set}

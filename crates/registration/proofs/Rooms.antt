@@ -1,9 +1,9 @@
 -- Output areas of several lengths: no call needs more than the longest packet, and the count that it answers is the
 -- count of the bytes that it wrote.
 use Rattle.std.proofs.Common.{◌≡◌, ℕ, ◌≤◌, min, Bool, not, eqb, ltb, leb, List, [], length, IfOk, Some, None, Ok, Err, Option, Result, sym, refl, ap, ◌∙◌, inl, inr, arith}
-use Rattle.association.specs.Algorithms.{Macs, mac_by}
+use Rattle.integrity.specs.Algorithms.{Macs, mac_by}
 use Rattle.association.specs.Sealing.{Sealed, carried, lifted, refused, sealed_by}
-use Rattle.association.specs.declared.algorithm.Algorithm.{Algorithm}
+use Rattle.integrity.specs.declared.algorithm.Algorithm.{Algorithm}
 use Rattle.association.specs.declared.faults.Fault.TheVariants.{CounterSpent, Packet, SendingPort}
 use Rattle.association.specs.declared.set.Set.{Set}
 use Rattle.association.specs.Ports.{destination_of, source_of}

@@ -1,6 +1,6 @@
 -- The sending questions: a segment to the handset, in clear, by a set, or not at all.
 use Rattle.std.specs.Prelude.{ℕ, not, List, [], length, Some, None, Ok, Err, Option, Result, ◌==◌, nat_le}
-use Rattle.association.specs.Algorithms.{Macs}
+use Rattle.integrity.specs.Algorithms.{Macs}
 use Rattle.association.specs.Ports.{source_of}
 use Rattle.association.specs.Sealing.{Sealed, sealed_by}
 use Rattle.association.specs.declared.faults.Fault as association

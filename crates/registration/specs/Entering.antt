@@ -1,7 +1,7 @@
 -- An opening REGISTER on one row: its questions, what the proxy chooses, and the stage that it leaves.
 use Rattle.std.specs.Prelude.{ℕ, zero, suc, ◌+◌, ◌*◌, Bool, cond, not, ◌||◌, Some, None, Ok, Err, Option, Result, ◌==◌}
 use Rattle.association.specs.Asked.{Address, spi_is}
-use Rattle.association.specs.declared.algorithm.Algorithm.{Algorithm}
+use Rattle.integrity.specs.declared.algorithm.Algorithm.{Algorithm}
 use Rattle.esp.specs.Asking.{asked}
 use Rattle.procedure.specs.Offers.{common, offer_right}
 use Rattle.registration.specs.Rows.{in_row}

@@ -1,6 +1,6 @@
 -- A packet from the handset, on the row that has its set.
 use Rattle.std.specs.Prelude.{ℕ, Bool, ◌&&◌, List, Some, None, Ok, Err, Option, Result, ◌==◌, nat_lt}
-use Rattle.association.specs.Algorithms.{Macs}
+use Rattle.integrity.specs.Algorithms.{Macs}
 use Rattle.association.specs.Asked.{Address, own_is}
 use Rattle.association.specs.Opening.{opened_by}
 use Rattle.association.specs.declared.faults.Fault as association

@@ -1,6 +1,6 @@
 -- The calls that send, on one row: challenge, outcome and send.
 use Rattle.std.specs.Prelude.{ℕ, ◌+◌, Bool, true, cond, not, ◌&&◌, List, is_some, Some, None, Option, ◌==◌}
-use Rattle.association.specs.Algorithms.{Macs}
+use Rattle.integrity.specs.Algorithms.{Macs}
 use Rattle.association.specs.Asked.{fresh}
 use Rattle.association.specs.Expiry.{expiry_of, lasting}
 use Rattle.association.specs.declared.faults.Fault.TheVariants.{NoTraffic}

@@ -5,7 +5,7 @@ ghost use Rattle.std.specs.Prelude.{◌≡◌};
 use crate::row::Row;
 use association::Address;
 use esp::Segment;
-use integrity::Integrity;
+use esp::Suite;
 use procedure::{Arrived, Chosen, Fault, Message, Offer, Service, Stage};
 use slots::{Cover, Slot};
 
@@ -39,18 +39,18 @@ impl Row {
     }
 
     // Opens a packet by the set in a slot. What its window recorded is kept, whatever comes of the packet.
-    fn admit<'a, First: Integrity, Second: Integrity>(
+    fn admit<'a, S: Suite>(
         &mut self,
         slot: Slot,
         port: u16,
         packet: &'a [u8],
     ) -> Result<Segment<'a>, Fault>
-        ensures { (self.new, shown_segment result) ≡ admitted (record { one = First.Integrity.mac; two = Second.Integrity.mac }) port packet.now slot self.old }
+        ensures { (self.new, shown_segment result) ≡ admitted S.Suite.macs port packet.now slot self.old }
     {
         let Some(mut set) = self.slots.get(slot) else {
             return Err(Fault::Association(association::Fault::NoSet));
         };
-        let opened = set.open::<First, Second>(port, packet);
+        let opened = set.open::<S>(port, packet);
         self.slots.set(slot, Some(set));
         let segment = opened?;
         Ok(segment)
@@ -143,7 +143,7 @@ impl Row {
 
     // A packet from an address to one of the subscriber's sets. `taken` says whether a set of the table has this
     // address and the port that an opening offers.
-    pub fn receive<'a, First: Integrity, Second: Integrity>(
+    pub fn receive<'a, S: Suite>(
         &mut self,
         service: Service,
         subscriber: u16,
@@ -153,12 +153,12 @@ impl Row {
         packet: &'a [u8],
         message: Message,
     ) -> Result<Arrived<'a>, Fault>
-        ensures { (self.new, heard_of result) ≡ received (record { one = First.Integrity.mac; two = Second.Integrity.mac }) service subscriber taken address spi packet.now message self.old }
+        ensures { (self.new, heard_of result) ≡ received S.Suite.macs service subscriber taken address spi packet.now message self.old }
     {
         let Some(slot) = self.slot_for(address, spi) else {
             return Err(Fault::Association(association::Fault::NoSet));
         };
-        let segment = self.admit::<First, Second>(slot, service.port, packet)?;
+        let segment = self.admit::<S>(slot, service.port, packet)?;
         let chosen = self.hear(service, subscriber, taken, address, slot, message)?;
         Ok(Arrived {
             subscriber: u32::from(subscriber),

@@ -7,7 +7,8 @@ ghost use Rattle.registration.specs.Sending.{challenged, concluded, cover_carrie
 use crate::keeping::{expiry_after, timer_right};
 use crate::row::Row;
 use association::{Parameters, Set, source_port};
-use integrity::{Ik, Integrity};
+use esp::Suite;
+use integrity::Ik;
 use procedure::{Carrier, Fault, Outcome, Phase, Procedure, Sent, Service, Stage};
 use slots::{Cover, Slot};
 
@@ -130,18 +131,18 @@ impl Row {
     }
 
     // Sends by the set in a slot.
-    fn transmit_by<First: Integrity, Second: Integrity>(
+    fn transmit_by<S: Suite>(
         &mut self,
         slot: Slot,
         segment: &[u8],
         out: &mut [u8],
     ) -> Result<Sent, Fault>
-        ensures { (self.new, result, out.new) ≡ leaves (emitted_by (record { one = First.Integrity.mac; two = Second.Integrity.mac }) slot segment.now (length out.old) self.old) out.old }
+        ensures { (self.new, result, out.new) ≡ leaves (emitted_by S.Suite.macs slot segment.now (length out.old) self.old) out.old }
     {
         let Some(mut set) = self.slots.get(slot) else {
             return unsent_answer(segment);
         };
-        let sealed = set.seal::<First, Second>(slot, segment, out);
+        let sealed = set.seal::<S>(slot, segment, out);
         self.slots.set(slot, Some(set));
         let bytes = sealed?;
         Ok(Sent {
@@ -151,24 +152,24 @@ impl Row {
     }
 
     // The sending questions.
-    fn transmit<First: Integrity, Second: Integrity>(
+    fn transmit<S: Suite>(
         &mut self,
         port: u16,
         carrier: Carrier,
         segment: &[u8],
         out: &mut [u8],
     ) -> Result<Sent, Fault>
-        ensures { (self.new, result, out.new) ≡ leaves (emitted (record { one = First.Integrity.mac; two = Second.Integrity.mac }) port carrier segment.now (length out.old) self.old) out.old }
+        ensures { (self.new, result, out.new) ≡ leaves (emitted S.Suite.macs port carrier segment.now (length out.old) self.old) out.old }
     {
         match carrier {
             Carrier::Clear => copy_clear(port, segment, out),
-            Carrier::By(slot) => self.transmit_by::<First, Second>(slot, segment, out),
+            Carrier::By(slot) => self.transmit_by::<S>(slot, segment, out),
             Carrier::Nothing => unsent_answer(segment),
         }
     }
 
     // Sends the challenge, and makes the set for its response.
-    pub fn challenge<First: Integrity, Second: Integrity>(
+    pub fn challenge<S: Suite>(
         &mut self,
         service: Service,
         taken: bool,
@@ -176,7 +177,7 @@ impl Row {
         segment: &[u8],
         out: &mut [u8],
     ) -> Result<Sent, Fault>
-        ensures { (self.new, result, out.new) ≡ leaves (challenged (record { one = First.Integrity.mac; two = Second.Integrity.mac }) service taken ik.now segment.now (length out.old) self.old) out.old }
+        ensures { (self.new, result, out.new) ≡ leaves (challenged S.Suite.macs service taken ik.now segment.now (length out.old) self.old) out.old }
     {
         match self.stage {
             Stage::Offered { procedure, .. } => {
@@ -188,7 +189,7 @@ impl Row {
                     self.end();
                     return Err(Fault::PairInUse(Phase::Offered));
                 }
-                let sent = self.transmit::<First, Second>(
+                let sent = self.transmit::<S>(
                     service.port,
                     carrier_of(procedure.cover),
                     segment,
@@ -209,36 +210,36 @@ impl Row {
     }
 
     // Sends the news of a failure, and ends the procedure.
-    fn fail<First: Integrity, Second: Integrity>(
+    fn fail<S: Suite>(
         &mut self,
         service: Service,
         carrier: Carrier,
         segment: &[u8],
         out: &mut [u8],
     ) -> Result<Sent, Fault>
-        ensures { (self.new, result, out.new) ≡ leaves (failed_by (record { one = First.Integrity.mac; two = Second.Integrity.mac }) service carrier segment.now (length out.old) self.old) out.old }
+        ensures { (self.new, result, out.new) ≡ leaves (failed_by S.Suite.macs service carrier segment.now (length out.old) self.old) out.old }
     {
-        let sent = self.transmit::<First, Second>(service.port, carrier, segment, out)?;
+        let sent = self.transmit::<S>(service.port, carrier, segment, out)?;
         self.end();
         Ok(sent)
     }
 
     // Sends the outcome of a procedure, and ends it.
-    pub fn conclude<First: Integrity, Second: Integrity>(
+    pub fn conclude<S: Suite>(
         &mut self,
         service: Service,
         outcome: Outcome,
         segment: &[u8],
         out: &mut [u8],
     ) -> Result<Sent, Fault>
-        ensures { (self.new, result, out.new) ≡ leaves (concluded (record { one = First.Integrity.mac; two = Second.Integrity.mac }) service outcome segment.now (length out.old) self.old) out.old }
+        ensures { (self.new, result, out.new) ≡ leaves (concluded S.Suite.macs service outcome segment.now (length out.old) self.old) out.old }
     {
         match (self.stage, outcome) {
             (Stage::Answered { procedure }, Outcome::Success { timer, mask }) => {
                 if !terms_right(timer, mask) {
                     return Err(Fault::BadTerms(Phase::Answered));
                 }
-                let sent = self.transmit_by::<First, Second>(Slot::Registration, segment, out)?;
+                let sent = self.transmit_by::<S>(Slot::Registration, segment, out)?;
                 let expiry = self.slots.latest(expiry_after(service.clock, timer));
                 self.slots.succeed(procedure.cover, expiry);
                 self.mask = mask;
@@ -246,7 +247,7 @@ impl Row {
                 Ok(sent)
             }
             (Stage::Answered { procedure }, Outcome::UserFailure) => {
-                self.fail::<First, Second>(
+                self.fail::<S>(
                     service,
                     user_failure_carrier(procedure.cover),
                     segment,
@@ -258,7 +259,7 @@ impl Row {
                 | Stage::Challenged { procedure }
                 | Stage::Answered { procedure },
                 Outcome::OtherFailure,
-            ) => self.fail::<First, Second>(service, carrier_of(procedure.cover), segment, out),
+            ) => self.fail::<S>(service, carrier_of(procedure.cover), segment, out),
             (Stage::None, _)
             | (
                 Stage::Offered { .. } | Stage::Challenged { .. },
@@ -268,16 +269,16 @@ impl Row {
     }
 
     // Sends a message by the set that carries traffic.
-    pub fn send<First: Integrity, Second: Integrity>(
+    pub fn send<S: Suite>(
         &mut self,
         segment: &[u8],
         out: &mut [u8],
     ) -> Result<Sent, Fault>
-        ensures { (self.new, result, out.new) ≡ leaves (sent (record { one = First.Integrity.mac; two = Second.Integrity.mac }) segment.now (length out.old) self.old) out.old }
+        ensures { (self.new, result, out.new) ≡ leaves (sent S.Suite.macs segment.now (length out.old) self.old) out.old }
     {
         match self.traffic_slot() {
             None => Err(Fault::Association(association::Fault::NoTraffic)),
-            Some(slot) => self.transmit_by::<First, Second>(slot, segment, out),
+            Some(slot) => self.transmit_by::<S>(slot, segment, out),
         }
     }
 }

@@ -1,8 +1,8 @@
 -- Which algorithm each name of a script stands for.
 use Rattle.std.specs.Prelude.{ℕ, List}
-use Rattle.association.specs.Algorithms.{mac_by}
-use Rattle.association.specs.declared.algorithm.Algorithm as number
-use Rattle.association.specs.declared.algorithm.Algorithm.TheVariants.{One, Two}
+use Rattle.integrity.specs.Algorithms.{mac_by}
+use Rattle.integrity.specs.declared.algorithm.Algorithm as number
+use Rattle.integrity.specs.declared.algorithm.Algorithm.TheVariants.{One, Two}
 use Rattle.product.specs.Product.{macs}
 use Rattle.script.specs.declared.algorithm.Algorithm.{Algorithm}
 use Rattle.script.specs.declared.algorithm.Algorithm.TheVariants.{HmacMd5, HmacSha1}

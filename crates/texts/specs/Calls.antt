@@ -1,6 +1,6 @@
 -- What is printed of each answer.
 use Rattle.std.specs.Prelude.{ℕ, List, [], ◌++◌, length, Some, None, vec_items, codes, decimal, Option}
-use Rattle.association.specs.Algorithms.{algorithm_number}
+use Rattle.integrity.specs.Algorithms.{algorithm_number}
 use Rattle.texts.specs.Names.{name_of}
 use Rattle.texts.specs.declared.call.CallAnswer.{CallAnswer}
 use Rattle.texts.specs.declared.call.CallAnswer.TheVariants.{Arrived, Deregistered, Opened, Refreshed, Refused, Registered, Sent, Ticked}

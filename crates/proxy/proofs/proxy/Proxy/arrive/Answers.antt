@@ -11,7 +11,7 @@ returns-in_err-new g c =
       machine = search rules;
       stays = search rules;
       housed = λ h. h;
-      wide = λ h. search rules ∙ arriving_wide_same (record { one = g.First.Integrity.mac; two = g.Second.Integrity.mac }) c.args.address c.args.packet.now c.args.message _ h;
+      wide = λ h. search rules ∙ arriving_wide_same g.S.Suite.macs c.args.address c.args.packet.now c.args.message _ h;
     }
 
 pub returns-in_err-i : goal.returns-in_err-i
@@ -21,7 +21,7 @@ returns-in_err-i g c =
       machine = search rules;
       stays = search rules;
       housed = λ h. h;
-      wide = λ h. search rules ∙ arriving_wide_same (record { one = g.First.Integrity.mac; two = g.Second.Integrity.mac }) c.args.address c.args.packet.now c.args.message _ h;
+      wide = λ h. search rules ∙ arriving_wide_same g.S.Suite.macs c.args.address c.args.packet.now c.args.message _ h;
     }
 
 pub returns : goal.returns
@@ -30,6 +30,6 @@ returns g c =
     record {
       machine = search rules;
       stays = search rules;
-      housed = λ h. housed_by (search rules) (arriving_housed (record { one = g.First.Integrity.mac; two = g.Second.Integrity.mac }) c.args.address c.args.packet.now c.args.message _ h);
-      wide = λ h. search rules ∙ arriving_wide_same (record { one = g.First.Integrity.mac; two = g.Second.Integrity.mac }) c.args.address c.args.packet.now c.args.message _ h;
+      housed = λ h. housed_by (search rules) (arriving_housed g.S.Suite.macs c.args.address c.args.packet.now c.args.message _ h);
+      wide = λ h. search rules ∙ arriving_wide_same g.S.Suite.macs c.args.address c.args.packet.now c.args.message _ h;
     }

@@ -14,5 +14,5 @@ returns g c =
     record {
       machine = search rules;
       stays = search rules;
-      housed = λ h. housed_by (search rules) (sending_call_housed (record { one = g.First.Integrity.mac; two = g.Second.Integrity.mac }) c.args.subscriber c.args.segment.now (length c.args.out.now) _ h);
+      housed = λ h. housed_by (search rules) (sending_call_housed g.S.Suite.macs c.args.subscriber c.args.segment.now (length c.args.out.now) _ h);
     }

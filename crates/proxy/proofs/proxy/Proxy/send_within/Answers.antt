@@ -7,8 +7,8 @@ use Rattle.std.proofs.Common.{arith}
 pub returns : goal.returns
 returns g c =
     let σ : State = state_of c.args.self.now in
-    let w = within (λ n. sending (record { one = g.First.Integrity.mac; two = g.Second.Integrity.mac }) c.args.subscriber c.args.segment.now n σ) c.args.area c.min-room.result c.args.out.now c.send.new.out _ _
-    (omega (arith, c.min-room.ensures)) c.told-out (sending_room (record { one = g.First.Integrity.mac; two = g.Second.Integrity.mac }) c.args.subscriber c.args.segment.now c.args.area σ)
-    (sending_counted (record { one = g.First.Integrity.mac; two = g.Second.Integrity.mac }) c.args.subscriber c.args.segment.now c.args.area σ (twelve_by _ _ g.met.First.Integrity.twelve g.met.Second.Integrity.twelve))
+    let w = within (λ n. sending g.S.Suite.macs c.args.subscriber c.args.segment.now n σ) c.args.area c.min-room.result c.args.out.now c.send.new.out _ _
+    (omega (arith, c.min-room.ensures)) c.told-out (sending_room g.S.Suite.macs c.args.subscriber c.args.segment.now c.args.area σ)
+    (sending_counted g.S.Suite.macs c.args.subscriber c.args.segment.now c.args.area σ g.met.S.Suite.twelve)
     c.send.ensures.machine c.send.auto.out in
     record { machine = w.0; wrote = w.1; stays = c.send.ensures.stays; housed = c.send.ensures.housed }
