@@ -1,5 +1,5 @@
 -- The two algorithms that a product is put together from, by number and by their meaning alone.
-use Rattle.std.specs.Prelude.{◌≡◌, ℕ, cond, List, Some, None, Err, Option, Result, ◌==◌}
+use Rattle.std.specs.Prelude.{◌≡◌, ℕ, cond, List, Some, None, Option, Result, ◌==◌}
 use Rattle.integrity.specs.declared.algorithm.Algorithm.{Algorithm}
 use Rattle.integrity.specs.declared.algorithm.Algorithm.TheVariants.{One, Two}
 use Rattle.integrity.specs.declared.algorithm.UnknownAlgorithm.{UnknownAlgorithm}

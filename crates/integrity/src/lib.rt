@@ -41,11 +41,11 @@ fn same(found: &[u8], due: &Tag) -> bool
     if found.len() != due.len() {
         return false;
     }
-    let mut difference = 0;
-    for i in 0..12 {
-        difference |= found[i] ^ due[i];
-    }
-    difference == 0
+    found
+        .iter()
+        .zip(due)
+        .fold(0, |difference, (a, b)| difference | (a ^ b))
+        == 0
 }
 
 // Whether a tag is the one that the algorithm gives for a text.

@@ -1,24 +1,15 @@
-use Rattle.std.proofs.Common.{◌≡◌, ℕ, get_or, ap, arith, below_more, eq-eqb, eqb-true}
-use Rattle.integrity.proofs.Differences.{or_none_l, or_none_r, same_by, xor_none}
+use Rattle.std.proofs.Common.{eqb, ap, ◌∙◌, arith, rules}
+use Rattle.std.proofs.lemmas.Iterator.{YieldsList-from_slice, YieldsList-from_zip}
+use Rattle.std.proofs.lemmas.Iterator.Consumers.{fold_from_yields_List}
+use Rattle.integrity.proofs.Differences.{join, same_by_differences}
 use Rattle.integrity.proofs.same.Goals as goal
-use Rattle.std.proofs.lemmas.List.{ext_get_or}
-use lib.Bits.{bit_xor, xor_self}
-
-pub loop-i-preserved : goal.loop-i-preserved
-loop-i-preserved c =
-    let i : ℕ = c.loop-i.i in
-    let d : ℕ = c.loop-i.difference in
-    let x : ℕ = get_or c.args.found.now i 0 in
-    let y : ℕ = get_or c.args.due.now i 0 in (
-      λ e. below_more _ i (c.loop-i.invariant.0 (or_none_l d (bit_xor x y) e)) (xor_none x y (or_none_r d (bit_xor x y) e)),
-      λ e. let dz = c.loop-i.invariant.1 e in
-          let xy : x ≡ y = ap (λ l. get_or l i 0) e in
-          rw (dz, xy, xor_self y),
-    )
 
 pub returns : goal.returns
 returns c =
-    let d : ℕ = c.loop-i.difference in
-    same_by c.args.found.now c.args.due.now _
-    (λ e. ext_get_or 0 _ _ (omega arith) (λ k h. c.loop-i.invariant.0 (eqb-true d 0 e) k (omega arith)))
-    (λ e. eq-eqb d 0 (c.loop-i.invariant.1 e))
+    let xs = c.args.found.now in
+    let ys = c.args.due.now in
+    ap (λ d. eqb d 0)
+    (fold_from_yields_List _ join 0 c.fold.result c.fold.ensures.ran
+    (YieldsList-from_zip (YieldsList-from_slice xs (cc)) (YieldsList-from_slice ys (cc)))
+    (λ d p r f k. search rules))
+    ∙ same_by_differences xs ys (omega arith)
