@@ -1,18 +1,15 @@
 -- The packet in the area: what the tag is taken of, and that it opens again.
-use Rattle.std.proofs.Common.{◌≡◌, ℕ, ◌+◌, ◌-◌, ◌^◌, ◌<◌, ◌≤◌, List, ◌++◌, length, take, sym, refl, ap, ◌∙◌, subst, arith}
+use Rattle.std.proofs.Common.{◌≡◌, ℕ, ◌+◌, ◌^◌, ◌<◌, ◌≤◌, List, ◌++◌, length, take, sym, refl, ap, ◌∙◌, subst, arith}
 use Rattle.esp.proofs.Packets.{covered_long}
 use Rattle.esp.proofs.Trips.{trip}
 use Rattle.esp.proofs.Writes.{Written, front}
 use Rattle.esp.specs.Opening.{OpensAs}
 use Rattle.esp.specs.Packet.{covered, pad_count, sealed}
 use Rattle.std.proofs.lemmas.List.{length-append, take_all}
-use borrow.Rule.Slice.PartMut.{mid_of}
 
 -- the algorithm reads all of a text of no more than 4096 bytes
-pub text_read : {area text now : List ℕ} {end : ℕ} → Written area text end now → end ≤ 4096 → take 4096 (mid_of 0 (end - 0) now) ≡ text
-text_read {area} {text} {now} {end} h l =
-    let z : end - 0 ≡ end = omega arith in
-    ap (λ (k : ℕ). take 4096 (take k now)) z ∙ ap (take 4096) (front h) ∙ take_all 4096 text (omega (arith, h.long))
+pub text_read : {area text now : List ℕ} {end : ℕ} → Written area text end now → end ≤ 4096 → take 4096 (take end now) ≡ text
+text_read {area} {text} {now} {end} h l = ap (take 4096) (front h) ∙ take_all 4096 text (omega (arith, h.long))
 
 -- the packet under the number q, its length, and that the front of an area with it opens as the segment
 module _ (mac : List ℕ → List ℕ → List ℕ) (ik : List ℕ) (spi q : ℕ) (segment : List ℕ) (twelve : length (mac ik (covered spi q segment)) ≡ 12) where

@@ -1,6 +1,5 @@
 mod Bitmap
 mod Marks
-mod Paddings
 mod Trailers
 mod Writes
 mod Packets

@@ -1,12 +1,11 @@
 -- The parts of a packet that its tag covers, joined, and their length.
-use Rattle.std.proofs.Common.{◌≡◌, ℕ, zero, suc, ◌+◌, ◌-◌, ◌<◌, List, [], ◌∷◌, ◌++◌, length, refl, arith}
+use Rattle.std.proofs.Common.{◌≡◌, ℕ, zero, suc, ◌+◌, ◌<◌, List, [], ◌∷◌, ◌++◌, length, take, refl, arith}
 use Rattle.esp.specs.Packet.{be32, covered, pad_count, padding}
 use Rattle.std.proofs.lemmas.List.FromFn.{length-range_with_len}
 use Rattle.std.proofs.lemmas.List.{append_assoc, length-append}
-use borrow.Rule.Slice.PartMut.{mid_of}
 
 -- up to three bytes of padding are a part of 1, 2, 3
-pub padding_cut : (k : ℕ) → k < 4 → mid_of {X = ℕ} 0 (k - 0) (1 ∷ 2 ∷ 3 ∷ []) ≡ padding k
+pub padding_cut : (k : ℕ) → k < 4 → take {A = ℕ} k (1 ∷ 2 ∷ 3 ∷ []) ≡ padding k
 padding_cut zero h = refl
 padding_cut (suc zero) h = refl
 padding_cut (suc (suc zero)) h = refl

@@ -1,60 +1,25 @@
--- Sealing and opening, by the first question that is answered with no, or by none.
-use Rattle.std.proofs.Common.{◌≡◌, ℕ, ◌+◌, ◌-◌, ◌%◌, ◌<◌, ◌≤◌, true, false, eqb, leb, List, length, take, Some, None, Ok, sym, ap, ◌∙◌, arith}
+-- What the questions of sealing and opening say where each is answered with yes.
+use Rattle.std.proofs.Common.{◌≡◌, ℕ, ◌+◌, ◌-◌, ◌%◌, ◌≤◌, true, false, eqb, leb, List, length, take, Some, sym, ap, ◌∙◌, arith}
 use Rattle.esp.specs.Opening.{opening, stopped, unwrapped}
-use Rattle.esp.specs.Packet.{pad_count, sealed, sealed_length, segment_right}
+use Rattle.esp.specs.Packet.{pad_count, sealed_length, segment_right}
 use Rattle.esp.specs.Reading.{Authentic, covered_of, number_of, packet_right, spi_of, tag_of}
-use Rattle.esp.specs.Sealing.{refused_at, sealing}
 use Rattle.esp.specs.Window.{noted, passing}
-use Rattle.esp.specs.declared.faults.Fault.TheVariants.{AreaLength, CounterSpent, OtherSpi, PacketLength, Replayed, SegmentLength, WrongTag}
+use Rattle.esp.specs.declared.faults.Fault.TheVariants.{WrongTag}
 use Rattle.esp.specs.declared.window.ReplayWindow.{ReplayWindow}
 use Rattle.std.proofs.lemmas.Slice.Eq.{bytes_eq-Decides}
 use Rattle.std.proofs.lemmas.List.{length-take, take_all}
-use Rattle.std.proofs.lemmas.Bool.{and_parts, eq-eqb, le-leb, le-ltb, leb-true, lt-leb, lt-ltb, ne_eqb}
+use Rattle.std.proofs.lemmas.Bool.{and_parts, eq-eqb, leb-true}
 use Rattle.std.specs.Str.{bytes_eq}
 
--- what the packet's length, or that there is none, says of the segment's
-pub length_wrong : (n : ℕ) → None ≡ sealed_length n → segment_right n ≡ false
-length_wrong n e = grind arith
-
+-- what the packet's length says of the segment's
 pub length_right : (n m : ℕ) → Some m ≡ sealed_length n → (segment_right n ≡ true) × (m ≡ n + pad_count n + 22)
 length_right n m e = grind arith
 
 pub length_fit : (n : ℕ) → segment_right n ≡ true → (8 ≤ n) × (n ≤ 1400)
 length_fit n e = let p = and_parts (leb 8 n) (leb n 1400) e in (leb-true 8 n p.0, leb-true n 1400 p.1)
 
--- sealing: the segment's length, the counter, the room, and none of them
-module _ (mac : List ℕ → List ℕ → List ℕ) (ik : List ℕ) (spi counter : ℕ) (segment : List ℕ) (room : ℕ) where
-  pub segment_wrong_length : segment_right (length segment) ≡ false
-      → sealing mac ik spi counter segment room ≡ refused_at counter (SegmentLength (length segment))
-  unfolding sealing
-  segment_wrong_length e = rw e
-
-  module _ (right : segment_right (length segment) ≡ true) where
-    pub spent : 4294967295 ≤ counter → sealing mac ik spi counter segment room ≡ refused_at counter CounterSpent
-    unfolding sealing
-    spent l = rw (right, le-ltb counter 4294967295 l)
-
-    -- the packet's length is `len`, and it would carry the number q
-    module _ (q len : ℕ) (below : counter < 4294967295) (eq : q ≡ counter + 1) (el : len ≡ length segment + pad_count (length segment) + 22) where
-      pub no_space : room < len → sealing mac ik spi counter segment room ≡ refused_at counter (AreaLength room)
-      unfolding sealing
-      no_space m =
-          let l : room < length segment + pad_count (length segment) + 22 = omega arith in
-          rw (right, lt-ltb counter 4294967295 below, lt-leb (length segment + pad_count (length segment) + 22) room l)
-
-      pub space : len ≤ room
-          → sealing mac ik spi counter segment room ≡ record { result = Ok len; counter = q; written = sealed mac ik spi q segment }
-      unfolding sealing
-      space m =
-          let l : length segment + pad_count (length segment) + 22 ≤ room = omega arith in
-          rw (el, eq, right, lt-ltb counter 4294967295 below, le-leb (length segment + pad_count (length segment) + 22) room l)
-
--- opening: the packet's length, the SPI, the number, the tag, and none of them
+-- opening a packet of a right length
 module _ (mac : List ℕ → List ℕ → List ℕ) (ik : List ℕ) (spi : ℕ) (w : ReplayWindow) (b : List ℕ) where
-  pub no_packet : packet_right (length b) ≡ false → opening mac ik spi w b ≡ stopped w (PacketLength (length b))
-  unfolding opening
-  no_packet e = rw e
-
   module _ (right : packet_right (length b) ≡ true) where
     pub accepted : spi_of b ≡ spi → passing w (number_of b) ≡ true → bytes_eq (tag_of b) (mac ik (covered_of b)) ≡ true
         → opening mac ik spi w b ≡ record { result = unwrapped b; window = noted w (number_of b) }
@@ -66,18 +31,10 @@ module _ (mac : List ℕ → List ℕ → List ℕ) (ik : List ℕ) (spi : ℕ) 
       spi_read : spi_of b ≡ s
       spi_read = rw (es, eb)
 
-      pub another_spi : (s ≡ spi → ⊥) → opening mac ik spi w b ≡ stopped w OtherSpi
-      unfolding opening
-      another_spi n = rw (right, ne_eqb (spi_of b) spi (λ e. n (sym spi_read ∙ e)))
-
       -- its number q,
       module _ {q : ℕ} (same : s ≡ spi) (eq : q ≡ number_of bytes) where
         number_read : number_of b ≡ q
         number_read = rw (eq, eb)
-
-        pub replayed : false ≡ passing w q → opening mac ik spi w b ≡ stopped w Replayed
-        unfolding opening
-        replayed e = rw (right, eq-eqb (spi_of b) spi (spi_read ∙ same), number_read, ← e)
 
         -- and its tag with the text that the tag covers, all of which the algorithm reads
         module _ {text tag : List ℕ} (passes : true ≡ passing w q) (et : text ≡ covered_of bytes) (eg : tag ≡ tag_of bytes) where

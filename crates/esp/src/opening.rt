@@ -13,6 +13,7 @@ use integrity::{Ik, Integrity};
 
 // Opens a packet for an SPI, and answers its segment as a part of it. The number is recorded as soon as the tag
 // is known to be right, and stays recorded where the packet is refused after that.
+#[tactic(auto, unfolding(crate::specs::Opening::opening))]
 pub fn open<'a, I: Integrity>(
     ik: &Ik,
     spi: u32,

@@ -1,5 +1,5 @@
 // The parts of a received packet.
-ghost use Rattle.std.specs.Prelude.{◌≡◌, ◌≤◌, true, false, length, MatchResult, slice_index};
+ghost use Rattle.std.specs.Prelude.{◌≡◌, ◌+◌, ◌≤◌, true, false, length, MatchResult, slice_index};
 ghost use Rattle.esp.specs.Opening.{shown, unwrapped};
 ghost use Rattle.esp.specs.Packet.{padding};
 ghost use Rattle.esp.specs.Reading.{covered_of, number_of as sequence_of, packet_right, spi_of, tag_of, word};
@@ -12,10 +12,11 @@ use crate::layout::{
 };
 use crate::segment::Segment;
 
-// A reader over a packet that came in. What it reads past the end of a short one is 0.
+// A reader over a packet that came in, whose length is right.
 #[derive(Clone, Copy)]
 pub struct PacketReader<'a> {
     bytes: &'a [u8],
+    ghost right: { packet_right (length bytes.now) ≡ true },
 }
 
 impl<'a> PacketReader<'a> {
@@ -24,7 +25,7 @@ impl<'a> PacketReader<'a> {
         ensures { MatchResult result (λ p. (packet_right (length bytes.now) ≡ true) × (p.bytes.now ≡ bytes.now)) (λ e. (packet_right (length bytes.now) ≡ false) × (e ≡ PacketLength (length bytes.now))) }
     {
         let n = bytes.len();
-        if n < SHORTEST_PACKET || n > LONGEST_PACKET || n % 4 != 0 {
+        if !(SHORTEST_PACKET..=LONGEST_PACKET).contains(&n) || n % 4 != 0 {
             return Err(Fault::PacketLength(n));
         }
         Ok(PacketReader { bytes })
@@ -48,32 +49,27 @@ impl<'a> PacketReader<'a> {
     pub fn covered(&self) -> &'a [u8]
         ensures { result.now ≡ covered_of self.now.bytes.now }
     {
-        let b = self.bytes;
-        b.split_at(b.len().saturating_sub(TAG_LEN)).0
+        &self.bytes[..self.bytes.len() - TAG_LEN]
     }
 
     pub fn tag(&self) -> &'a [u8]
         ensures { result.now ≡ tag_of self.now.bytes.now }
     {
-        let b = self.bytes;
-        b.split_at(b.len().saturating_sub(TAG_LEN)).1
+        &self.bytes[self.bytes.len() - TAG_LEN..]
     }
 
     // The segment, if what follows it is right: next header, pad length and padding.
+    #[tactic(auto, unfolding(crate::specs::Opening::unwrapped, crate::specs::Reading::trailer_right))]
     pub fn segment(&self) -> Result<Segment<'a>, Fault>
         ensures { shown result ≡ unwrapped self.now.bytes.now }
     {
         let b = self.bytes;
-        let trailer = b.len().saturating_sub(TAIL);
-        let pads = byte_at(b, trailer) as usize;
-        if byte_at(b, trailer + 1) != UDP
-            || pads + HEAD + SHORTEST_SEGMENT > trailer
-            || trailer - pads > HEAD + LONGEST_SEGMENT
+        let trailer = b.len() - TAIL;
+        let end = trailer.saturating_sub(b[trailer] as usize);
+        if b[trailer + 1] != UDP
+            || !(HEAD + SHORTEST_SEGMENT..=HEAD + LONGEST_SEGMENT).contains(&end)
+            || !counts_up(&b[end..trailer])
         {
-            return Err(Fault::WrongTrailer(trailer));
-        }
-        let end = trailer - pads;
-        if !counts_up(&b[end..trailer]) {
             return Err(Fault::WrongTrailer(trailer));
         }
         Ok(Segment {
@@ -83,34 +79,19 @@ impl<'a> PacketReader<'a> {
     }
 }
 
-// The byte at a place, 0 past the end.
-fn byte_at(bytes: &[u8], at: usize) -> u8
-    ensures { result ≡ slice_index bytes.now at }
-{
-    if at < bytes.len() { bytes[at] } else { 0 }
-}
-
 // The 32-bit number from a place on, the highest byte first.
 fn word_at(bytes: &[u8], at: usize) -> u32
-    requires { at ≤ 4 }
+    requires { at + 4 ≤ length bytes.now }
     ensures { result ≡ word bytes.now at }
 {
-    u32::from_be_bytes([
-        byte_at(bytes, at),
-        byte_at(bytes, at + 1),
-        byte_at(bytes, at + 2),
-        byte_at(bytes, at + 3),
-    ])
+    u32::from_be_bytes([bytes[at], bytes[at + 1], bytes[at + 2], bytes[at + 3]])
 }
 
 // Whether the bytes are 1, 2, 3 and so on.
 fn counts_up(pads: &[u8]) -> bool
     ensures { result ≡ bytes_eq pads.now (padding (length pads.now)) }
 {
-    for (i, b) in pads.iter().enumerate() {
-        if *b as usize != i + 1 {
-            return false;
-        }
-    }
-    true
+    pads.iter()
+        .zip(1..pads.len() + 1)
+        .all(|(byte, place)| *byte as usize == place)
 }

@@ -10,6 +10,7 @@ use crate::layout::{HEAD, LONGEST_SEGMENT, SHORTEST_SEGMENT, TAIL, UDP};
 use integrity::{Ik, Integrity};
 
 // Overwrites a part of the area and answers where it ends.
+#[tactic(auto, using(std::proofs::lemmas::Slice::overwrites))]
 fn put(out: &mut [u8], at: usize, part: &[u8]) -> usize
     requires { at + length part.now ≤ length out.old }
     ensures next { result ≡ at + length part.now }
@@ -35,10 +36,9 @@ pub fn sealed_len(segment_len: usize) -> Option<usize>
     ensures fewest { Fewest segment_len }
     ensures figures { PacketFigures }
 {
-    if segment_len < SHORTEST_SEGMENT || segment_len > LONGEST_SEGMENT {
-        return None;
-    }
-    Some(segment_len + pad_len(segment_len) + HEAD + TAIL)
+    (SHORTEST_SEGMENT..=LONGEST_SEGMENT)
+        .contains(&segment_len)
+        .then(|| segment_len + pad_len(segment_len) + HEAD + TAIL)
 }
 
 // Writes all of the packet but the tag.
@@ -51,12 +51,13 @@ fn write_covered(spi: u32, number: u32, segment: &[u8], out: &mut [u8]) -> usize
     let end = put(out, 0, &spi.to_be_bytes());
     let end = put(out, end, &number.to_be_bytes());
     let end = put(out, end, segment);
-    let end = put(out, end, &[1, 2, 3][0..pads]);
+    let end = put(out, end, &[1, 2, 3][..pads]);
     put(out, end, &[pads as u8, UDP])
 }
 
 // Seals a segment into the front of an area, under one more than the counter, and answers how many bytes the
 // packet has. The counter's last value seals nothing, so that no number is used twice.
+#[tactic(auto, unfolding(crate::specs::Sealing::sealing))]
 pub fn seal<I: Integrity>(
     ik: &Ik,
     spi: u32,
@@ -70,17 +71,13 @@ pub fn seal<I: Integrity>(
     ensures wrote { IfOk result (λ n. n ≡ length (sealing I.Integrity.mac ik.now spi counter.old segment.now (length out.old)).written) }
     ensures opens { IfOk result (λ n. OpensAs I.Integrity.mac ik.now spi counter.new segment.now (take n out.new)) }
 {
-    let Some(len) = sealed_len(segment.len()) else {
-        return Err(Fault::SegmentLength(segment.len()));
-    };
-    let Some(number) = counter.checked_add(1) else {
-        return Err(Fault::CounterSpent);
-    };
+    let len = sealed_len(segment.len()).ok_or(Fault::SegmentLength(segment.len()))?;
+    let number = counter.checked_add(1).ok_or(Fault::CounterSpent)?;
     if out.len() < len {
         return Err(Fault::AreaLength(out.len()));
     }
     let end = write_covered(spi, number, segment, out);
-    let tag = I::tag(ik, &out[0..end]);
+    let tag = I::tag(ik, &out[..end]);
     put(out, end, &tag);
     *counter = number;
     Ok(len)

@@ -30,6 +30,7 @@ impl ReplayWindow {
     }
 
     // Whether a packet with this number may come in.
+    #[tactic(auto, using(crate::proofs::Marks::passes_by_numbers), unfolding(crate::specs::Window::passing))]
     pub fn passes(&self, number: u32) -> bool
         ensures stored { result ≡ passing self.now number }
         ensures numbers { (ns : List ℕ) → Stands self.now ns → result ≡ may_pass ns number }
@@ -45,6 +46,7 @@ impl ReplayWindow {
     }
 
     // Records a number, so that it does not pass again.
+    #[tactic(auto, using(crate::proofs::Marks::records_by_numbers), unfolding(crate::specs::Window::noted))]
     pub fn record(&mut self, number: u32)
         ensures stored { self.new ≡ noted self.old number }
         ensures numbers { (ns : List ℕ) → Stands self.old ns → Stands self.new (number ∷ ns) }

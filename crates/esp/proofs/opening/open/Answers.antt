@@ -1,6 +1,6 @@
-use Rattle.esp.proofs.Questions.{another_spi, no_packet, replayed, right_tag, wrong_tag}
+use Rattle.esp.proofs.Questions.{right_tag, wrong_tag}
 use Rattle.esp.proofs.opening.open.Goals as goal
-use Rattle.std.proofs.Common.{◌≡◌, ℕ, true, ◌∷◌, IfOk, Ok, Err, Result, sym, ap, ◌∙◌, subst, rules}
+use Rattle.std.proofs.Common.{◌≡◌, ℕ, true, ◌∷◌, IfOk, Ok, Err, Result, sym, ap, ◌∙◌, subst}
 use Rattle.esp.specs.Numbers.{Stands, may_pass}
 use Rattle.esp.specs.Opening.{Opening}
 use Rattle.esp.specs.Reading.{number_of}
@@ -9,26 +9,6 @@ use Rattle.esp.specs.Reading.{number_of}
 made_since : {X Y P : Type 0} (r : Result X Y) → P → IfOk r (λ _. P)
 made_since (Ok x) p = p
 made_since (Err y) p = tt
-
-pub returns-in_err-reader : goal.returns-in_err-reader
-returns-in_err-reader g c =
-    let e = no_packet g.I.Integrity.mac c.args.ik.now c.args.spi c.args.window.now c.args.packet.now
-    c.in_err-reader.ensures.0 in
-    search rules
-
-pub returns-then-spi : goal.returns-then-spi
-returns-then-spi g c =
-    let r = c.in_ok-reader.ensures in
-    let e = another_spi g.I.Integrity.mac c.args.ik.now c.args.spi c.args.window.now c.args.packet.now
-    r.0 r.1 c.spi.ensures c.if-spi.true in
-    record { result = ap (λ (o : Opening). o.result) (sym e); window = ap (λ (o : Opening). o.window) (sym e); once = λ ns s. tt; authentic = tt }
-
-pub returns-then-not-passes : goal.returns-then-not-passes
-returns-then-not-passes g c =
-    let r = c.in_ok-reader.ensures in
-    let e = replayed g.I.Integrity.mac c.args.ik.now c.args.spi c.args.window.now c.args.packet.now
-    r.0 r.1 c.spi.ensures c.if-spi.false c.sequence-number.ensures c.if-not-passes.ensures.stored in
-    record { result = ap (λ (o : Opening). o.result) (sym e); window = ap (λ (o : Opening). o.window) (sym e); once = λ ns s. tt; authentic = tt }
 
 pub returns-then-not-verify : goal.returns-then-not-verify
 returns-then-not-verify g c =

@@ -1,9 +1,17 @@
-use Rattle.esp.proofs.Paddings.{counts, counts_not}
+use Rattle.std.proofs.Common.{◌≡◌, ◌+◌, length, sym, Decides, arith, rules}
+use Rattle.std.proofs.lemmas.Iterator.{YieldsList-from_range, YieldsList-from_slice, YieldsList-from_zip, same_from_all}
+use Rattle.std.proofs.lemmas.List.FromFn.{length-range_with_len}
+use Rattle.std.proofs.lemmas.Slice.Eq.{bytes_eq-Decides}
+use Rattle.esp.specs.Packet.{padding}
 use Rattle.esp.proofs.reader.counts_up.Goals as goal
-use Rattle.std.proofs.Common.{arith}
-
-pub returns-then-b-i : goal.returns-then-b-i
-returns-then-b-i c = counts_not _ c.loop-i.i (omega arith) c.if-b-i.true
+use borrow.Author.Tests.{tests}
 
 pub returns : goal.returns
-returns c = counts _ (λ k l. c.loop-i.invariant k (omega arith))
+returns c =
+    let pads = c.args.pads.now in
+    let n = length pads in
+    let same : Decides c.all.result (pads ≡ padding n) =
+    same_from_all c.all.new.self _ _ pads (padding n) c.all.ensures.ran
+    (YieldsList-from_zip (YieldsList-from_slice pads (cc)) (YieldsList-from_range 1 (n + 1) n (cc) (omega arith)))
+    (sym (length-range_with_len 1 n)) (λ x q k. search (rules, tests)) (λ x q k. search (rules, tests)) in
+    search (rules, bytes_eq-Decides)
