@@ -1,4 +1,5 @@
 mod Blocks
+mod Orders
 mod Outputs
 mod Rotations
 mod Schedules

@@ -5,12 +5,6 @@ use Rattle.std.proofs.lemmas.List.FromFn.{fill_by_all}
 use Rattle.hmac.specs.Words.{high_first}
 use Rattle.hmac.specs.Sha1.{next, extended, words}
 
--- the sixteen words of the block
-pub words_all : (ws bs : List ℕ) → length ws ≡ 80 → ((k : ℕ) → k < 16 → get_or ws k 0 ≡ high_first bs (4 * k)) → take 16 ws ≡ words bs
-unfolding words
-words_all ws bs n h =
-    fill_by_all (λ i. high_first bs (4 * i)) (take 16 ws) 16 0 (length-take-le 16 ws (omega arith)) (λ k l. get_or-take 16 ws k 0 l ∙ h k l)
-
 -- the next word depends on those before it alone
 next_take : (ws : List ℕ) (n : ℕ) → 16 ≤ n → next (take n ws) n ≡ next ws n
 unfolding next

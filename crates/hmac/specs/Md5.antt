@@ -1,9 +1,8 @@
 -- MD5 in the order of RFC 1321, clause 3.
-use Rattle.std.specs.Prelude.{ℕ, zero, suc, ◌*◌, cond, List, [], ◌∷◌, ◌++◌, map, bit_and, bit_or, bit_xor, nat_lt, slice_index}
+use Rattle.std.specs.Prelude.{ℕ, zero, suc, cond, List, [], ◌∷◌, ◌++◌, bit_and, bit_or, bit_xor, nat_lt, slice_index}
 use Rattle.hmac.specs.Digest.{chained}
-use Rattle.hmac.specs.Words.{add32, not32, rotl, low_first, low_bytes, low_count}
+use Rattle.hmac.specs.Words.{add32, not32, rotl, low_first, low_bytes, low_count, words_of}
 use Rattle.hmac.specs.declared.rfc1321.Abcd.{Abcd}
-use Rattle.std.specs.List.{range_with_len}
 
 -- 3.3: the buffer before the first block
 --   word A: 01 23 45 67, B: 89 ab cd ef, C: fe dc ba 98, D: 76 54 32 10, low byte first
@@ -61,8 +60,8 @@ turns =
     ∷ 6 ∷ 10 ∷ 15 ∷ 21 ∷ 6 ∷ 10 ∷ 15 ∷ 21 ∷ 6 ∷ 10 ∷ 15 ∷ 21 ∷ 6 ∷ 10 ∷ 15 ∷ 21 ∷ []
 
 -- the sixteen words X[0 .. 15] of a block
-unfoldable pub words : List ℕ → List ℕ
-words block = map (λ j. low_first block (4 * j)) (range_with_len 0 16)
+abbrev pub words : List ℕ → List ℕ
+words = words_of low_first
 
 -- step t, [abcd k s i]: a = b + ((a + F(b,c,d) + X[k] + T[i]) <<< s).
 -- The text writes the next step as [dabc ..]: what it calls a is then the d of this one, and so on. So

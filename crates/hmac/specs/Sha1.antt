@@ -1,9 +1,8 @@
 -- SHA-1 in the order of FIPS 180-4: clauses 4.1.1, 4.2.1, 5.3.1 and 6.1.2.
-use Rattle.std.specs.Prelude.{ℕ, zero, suc, ◌+◌, ◌-◌, ◌*◌, cond, List, [], ◌∷◌, ◌++◌, map, bit_and, bit_xor, nat_lt, slice_index}
+use Rattle.std.specs.Prelude.{ℕ, zero, suc, ◌+◌, ◌-◌, cond, List, [], ◌∷◌, ◌++◌, bit_and, bit_xor, nat_lt, slice_index}
 use Rattle.hmac.specs.Digest.{chained}
-use Rattle.hmac.specs.Words.{add32, not32, rotl, high_first, high_bytes, high_count}
+use Rattle.hmac.specs.Words.{add32, not32, rotl, high_first, high_bytes, high_count, words_of}
 use Rattle.hmac.specs.declared.fips180.Working.{Working}
-use Rattle.std.specs.List.{range_with_len}
 
 -- 4.1.1: Ch(x, y, z) = (x ∧ y) ⊕ (¬x ∧ z)
 abbrev pub ch : ℕ → ℕ → ℕ → ℕ
@@ -32,8 +31,8 @@ abbrev pub initial : Working
 initial = record { a = 0x67452301; b = 0xefcdab89; c = 0x98badcfe; d = 0x10325476; e = 0xc3d2e1f0 }
 
 -- 6.1.2, step 1: the message schedule W. Its first sixteen words are those of the block,
-unfoldable pub words : List ℕ → List ℕ
-words block = map (λ j. high_first block (4 * j)) (range_with_len 0 16)
+abbrev pub words : List ℕ → List ℕ
+words = words_of high_first
 
 -- and each later one is ROTL 1 (W[t-3] ⊕ W[t-8] ⊕ W[t-14] ⊕ W[t-16])
 unfoldable pub next : List ℕ → ℕ → ℕ

@@ -49,19 +49,16 @@ fn expanded<const N: usize>(ik: &Ik) -> [u8; N]
     ensures { result ≡ ik.now ++ replicate (N - 16) 0 }
 {
     let mut key = [0; N];
-    for (i, byte) in ik.iter().enumerate() {
-        key[i] = *byte;
-    }
+    key[..16].copy_from_slice(ik);
     key
 }
 
 // The first 96 bits of HMAC over what is read of a text.
+#[tactic(auto, using(std::proofs::lemmas::List::take_min))]
 fn cut<D: Digest>(key: &[u8], text: &[u8]) -> Tag
     ensures { result ≡ take 12 (hmac_of D.Digest.hash key.now (take 4096 text.now)) }
 {
-    let n = text.len().min(LONGEST);
-    let whole = hmac::<D>(key, &text[0..n]);
-    let mut tag = [0; 12];
-    tag.copy_from_slice(&D::view(&whole)[0..12]);
-    tag
+    let n = LONGEST.min(text.len());
+    let whole = hmac::<D>(key, &text[..n]);
+    *D::view(&whole).first_chunk().unwrap()
 }

@@ -62,7 +62,7 @@ pub fn filled(bytes: &[u8]) -> [u8; 64]
     ensures { result ≡ bytes.now ++ replicate (64 - length bytes.now) 0 }
 {
     let mut block = [0; BLOCK];
-    block[0..bytes.len()].copy_from_slice(bytes);
+    block[..bytes.len()].copy_from_slice(bytes);
     block
 }
 

@@ -5,6 +5,7 @@ ghost use Rattle.std.specs.Prelude.{◌≡◌};
 ghost use Rattle.std.proofs.Common.{rules};
 
 use crate::chaining::Digest;
+use crate::words::{HighFirst, words, written};
 
 // The digest SHA-1.
 pub struct Sha1;
@@ -59,15 +60,7 @@ impl Digest for Sha1 {
     }
 
     fn finish(state: &Working) -> [u8; 20] {
-        let mut out = [0; 20];
-        for (i, word) in [state.a, state.b, state.c, state.d, state.e]
-            .iter()
-            .enumerate()
-        {
-            let at = 4 * i;
-            out[at..at + 4].copy_from_slice(&word.to_be_bytes());
-        }
-        out
+        written::<HighFirst, 5, 20>([state.a, state.b, state.c, state.d, state.e])
     }
 
     fn view(out: &[u8; 20]) -> &[u8] {
@@ -103,10 +96,7 @@ fn expand(block: &[u8; 64]) -> [u32; 80]
     ensures { result ≡ schedule block.now }
 {
     let mut w = [0; 80];
-    for i in 0..16 {
-        let at = 4 * i;
-        w[i] = u32::from_be_bytes([block[at], block[at + 1], block[at + 2], block[at + 3]]);
-    }
+    w[..16].copy_from_slice(&words::<HighFirst>(block));
     for j in 16..80 {
         w[j] = (w[j - 3] ^ w[j - 8] ^ w[j - 14] ^ w[j - 16]).rotate_left(1);
     }
@@ -125,13 +115,13 @@ fn compress(hash: Working, block: &[u8; 64]) -> Working
         mut d,
         mut e,
     } = hash;
-    for t in 0..80 {
+    for (t, word) in w.iter().enumerate() {
         let next = a
             .rotate_left(5)
             .wrapping_add(mix(t, b, c, d))
             .wrapping_add(e)
             .wrapping_add(constant_of(t))
-            .wrapping_add(w[t]);
+            .wrapping_add(*word);
         e = d;
         d = c;
         c = b.rotate_left(30);

@@ -6,6 +6,7 @@ mod chaining;
 mod fips180;
 mod rfc1321;
 mod rfc2104;
+mod words;
 
 pub use algorithms::{HmacMd5, HmacSha1};
 pub use chaining::{Digest, digest_of};

@@ -1,10 +1,11 @@
 // MD5 (RFC 1321).
-ghost use Rattle.hmac.specs.Md5.{auxiliary, compressed, initial, md5, output, words};
+ghost use Rattle.hmac.specs.Md5.{auxiliary, compressed, initial, md5, output};
 ghost use Rattle.hmac.specs.Words.{low_count};
 ghost use Rattle.std.specs.Prelude.{◌≡◌};
 ghost use Rattle.std.proofs.Common.{rules};
 
 use crate::chaining::Digest;
+use crate::words::{LowFirst, words, written};
 
 // The digest MD5.
 pub struct Md5;
@@ -57,12 +58,7 @@ impl Digest for Md5 {
     }
 
     fn finish(state: &Abcd) -> [u8; 16] {
-        let mut out = [0; 16];
-        for (i, word) in [state.a, state.b, state.c, state.d].iter().enumerate() {
-            let at = 4 * i;
-            out[at..at + 4].copy_from_slice(&word.to_le_bytes());
-        }
-        out
+        written::<LowFirst, 4, 16>([state.a, state.b, state.c, state.d])
     }
 
     fn view(out: &[u8; 16]) -> &[u8] {
@@ -118,23 +114,11 @@ fn mix(t: usize, x: u32, y: u32, z: u32) -> u32
     }
 }
 
-// The sixteen words of a block.
-fn split(block: &[u8; 64]) -> [u32; 16]
-    ensures { result ≡ words block.now }
-{
-    let mut w = [0; 16];
-    for i in 0..16 {
-        let at = 4 * i;
-        w[i] = u32::from_le_bytes([block[at], block[at + 1], block[at + 2], block[at + 3]]);
-    }
-    w
-}
-
 // The buffer after one block.
 fn compress(saved: Abcd, block: &[u8; 64]) -> Abcd
     ensures { result ≡ compressed saved block.now }
 {
-    let w = split(block);
+    let w = words::<LowFirst>(block);
     let Abcd {
         mut a,
         mut b,

@@ -15,8 +15,8 @@ fn key_block(key: &[u8], pad: u8) -> [u8; 64]
     ensures { result ≡ keyed pad key.now }
 {
     let mut block = filled(key);
-    for b in block.iter_mut() {
-        *b ^= pad;
+    for byte in &mut block {
+        *byte ^= pad;
     }
     block
 }

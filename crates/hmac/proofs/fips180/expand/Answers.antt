@@ -1,23 +1,18 @@
-use Rattle.std.proofs.Common.{◌≡◌, ◌*◌, sym, ◌∙◌, arith, length-set}
-use Rattle.std.proofs.lemmas.List.Edits.{fill_by_more}
-use Rattle.std.proofs.lemmas.List.{take_all}
-use Rattle.hmac.specs.Words.{high_first, rotl}
+use Rattle.std.proofs.Common.{◌≡◌, ◌+◌, replicate, sym, ap, ◌∙◌, arith, length-set}
+use Rattle.std.proofs.lemmas.List.{length-append, take_all, take_at}
+use Rattle.hmac.specs.Words.{rotl}
 use Rattle.hmac.specs.Sha1.{extended, schedule, next}
-use Rattle.hmac.proofs.Schedules.{words_all, extended_step}
+use Rattle.hmac.proofs.Schedules.{extended_step}
 use Rattle.hmac.proofs.fips180.expand.Goals as goal
-
-pub loop-i-preserved : goal.loop-i-preserved
-loop-i-preserved c = (
-  simp length-set c.loop-i.invariant.0,
-  rw c.from_be_bytes.ensures (fill_by_more (λ k. high_first c.args.block.now (4 * k)) c.loop-i.w c.loop-i.i 0 (omega arith) c.loop-i.invariant.1),
-)
 
 pub loop-j-init : goal.loop-j-init
 unfolding extended
-loop-j-init c = (
-  c.loop-i.invariant.0,
-  words_all c.loop-i.w c.args.block.now c.loop-i.invariant.0 (λ k h. c.loop-i.invariant.1 k (omega arith)),
-)
+loop-j-init c =
+    let ws = c.copy_from_slice.new.self in
+    let n = c.copy_from_slice.ensures.len in (
+      length-append ws (replicate 64 0) ∙ ap (λ k. k + 64) n,
+      take_at ws (replicate 64 0) 16 n ∙ c.copy_from_slice.ensures.after ∙ c.words.ensures,
+    )
 
 pub loop-j-preserved : goal.loop-j-preserved
 unfolding next rotl

@@ -47,7 +47,7 @@ loop-t-preserved c =
     let xs = words c.args.block.now in
     let within = turn_within t h in
     let turned = c.rotate_left.ensures ∙ rotl_std (turn t) _ within.0 within.1 in
-    simp (turned, c.mix.ensures, c.split-w.ensures, reads_at turn turns refl t h, reads_at pick picks refl t h, reads_at sine sines refl t h)
+    simp (turned, c.mix.ensures, c.words-w.ensures, reads_at turn turns refl t h, reads_at pick picks refl t h, reads_at sine sines refl t h)
     (turn_more (λ k. steps k xs c.args.saved) (λ k. step k xs) (λ k. refl) t _ c.loop-t.invariant)
 
 pub returns : goal.returns

@@ -5,8 +5,8 @@ use Rattle.std.proofs.lemmas.List.Edits.{map_over_more}
 use Rattle.hmac.specs.Hmac.{keyed}
 use Rattle.hmac.proofs.rfc2104.key_block.Goals as goal
 
-pub loop-b-preserved : goal.loop-b-preserved
-loop-b-preserved c = search (rules, map_over_more (λ b. bit_xor b c.args.pad))
+pub loop-byte-preserved : goal.loop-byte-preserved
+loop-byte-preserved c = search (rules, map_over_more (λ b. bit_xor b c.args.pad))
 
 pub returns : goal.returns
 unfolding keyed

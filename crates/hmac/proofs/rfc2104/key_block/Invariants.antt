@@ -2,5 +2,5 @@ use Rattle.std.proofs.Common.{◌≡◌, ◌++◌, map, take, drop}
 use lib.Bits.{bit_xor}
 use Rattle.hmac.proofs.rfc2104.key_block.Given as goal
 
-abbrev pub invariant-loop-b : goal.invariant-loop-b
-invariant-loop-b l = l.b-items ≡ map (λ b. bit_xor b l.pad) (take l.b-index l.initial.b-items) ++ drop l.b-index l.initial.b-items
+abbrev pub invariant-loop-byte : goal.invariant-loop-byte
+invariant-loop-byte l = l.byte-items ≡ map (λ b. bit_xor b l.pad) (take l.byte-index l.initial.byte-items) ++ drop l.byte-index l.initial.byte-items
