@@ -26,6 +26,7 @@ impl Integrity for HmacMd5 {
 
     ghost twelve = { unfold hmac_md5_tag hmac_of in λ ik text. refl };
 
+    #[tactic(auto, unfolding(crate::specs::Algorithms::hmac_md5_tag))]
     fn tag(ik: &Ik, text: &[u8]) -> Tag {
         cut::<Md5>(&expanded::<{ HmacMd5::KEY_LEN }>(ik), text)
     }
@@ -38,6 +39,7 @@ impl Integrity for HmacSha1 {
 
     ghost twelve = { unfold hmac_sha1_tag hmac_of in λ ik text. refl };
 
+    #[tactic(auto, unfolding(crate::specs::Algorithms::hmac_sha1_tag))]
     fn tag(ik: &Ik, text: &[u8]) -> Tag {
         cut::<Sha1>(&expanded::<{ HmacSha1::KEY_LEN }>(ik), text)
     }

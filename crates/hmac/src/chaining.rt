@@ -107,6 +107,7 @@ pub fn digest_from<D: Digest>(mut state: D::State, before: u64, message: &[u8]) 
 }
 
 // The digest of a message.
+#[tactic(auto, unfolding(crate::specs::Digest::chained))]
 pub fn digest_of<D: Digest>(message: &[u8]) -> D::Output
     ensures { D.Digest.listed result ≡ D.Digest.hash message.now }
 {

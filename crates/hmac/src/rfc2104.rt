@@ -40,6 +40,7 @@ fn with_short_key<D: Digest>(key: &[u8], message: &[u8]) -> D::Output
 }
 
 // HMAC of a message. A key longer than a block is hashed first.
+#[tactic(auto, unfolding(crate::specs::Hmac::hmac_of))]
 pub fn hmac<D: Digest>(key: &[u8], message: &[u8]) -> D::Output
     ensures { D.Digest.listed result ≡ hmac_of D.Digest.hash key.now message.now }
 {
