@@ -1,6 +1,5 @@
 mod Blocks
 mod Orders
-mod Outputs
 mod Rotations
 mod Schedules
 mod Tables

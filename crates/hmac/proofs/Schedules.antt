@@ -1,9 +1,7 @@
 -- The message schedule of SHA-1, as a loop writes it.
-use Rattle.std.proofs.Common.{◌≡◌, ℕ, suc, ◌+◌, ◌-◌, ◌*◌, ◌<◌, ◌≤◌, List, [], ◌∷◌, ◌++◌, length, get_or, take, set, sym, ap, ◌∙◌, arith}
-use Rattle.std.proofs.lemmas.List.{take_more_set, get_or-take, length-take-le}
-use Rattle.std.proofs.lemmas.List.FromFn.{fill_by_all}
-use Rattle.hmac.specs.Words.{high_first}
-use Rattle.hmac.specs.Sha1.{next, extended, words}
+use Rattle.std.proofs.Common.{◌≡◌, ℕ, suc, ◌+◌, ◌-◌, ◌<◌, ◌≤◌, List, [], ◌∷◌, ◌++◌, length, take, set, sym, ap, ◌∙◌, arith}
+use Rattle.std.proofs.lemmas.List.{take_more_set, get_or-take}
+use Rattle.hmac.specs.Sha1.{next, extended}
 
 -- the next word depends on those before it alone
 next_take : (ws : List ℕ) (n : ℕ) → 16 ≤ n → next (take n ws) n ≡ next ws n

@@ -19,6 +19,8 @@ pub struct HmacMd5;
 // HMAC-SHA-1-96 (RFC 2404): the key is IK and four zero bytes (TS 33.203, annex I).
 pub struct HmacSha1;
 
+// Both algorithms are `cut` over `expanded`. The two impls stay apart, since each one's `mac` names the definition of its
+// own RFC.
 impl Integrity for HmacMd5 {
     const KEY_LEN: usize = 16;
 

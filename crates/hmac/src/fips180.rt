@@ -97,6 +97,7 @@ fn expand(block: &[u8; 64]) -> [u32; 80]
 {
     let mut w = [0; 80];
     w[..16].copy_from_slice(&words::<HighFirst>(block));
+    // Each word is made from earlier ones by their numbers, as the standard writes it: no chain over the words is plainer.
     for j in 16..80 {
         w[j] = (w[j - 3] ^ w[j - 8] ^ w[j - 14] ^ w[j - 16]).rotate_left(1);
     }

@@ -125,6 +125,8 @@ fn compress(saved: Abcd, block: &[u8; 64]) -> Abcd
         mut c,
         mut d,
     } = saved;
+    // A step takes its word, its sine and its turn by its number, as the text writes it: a chain over three tables of
+    // different shapes is no plainer.
     for t in 0..64 {
         let sum = a
             .wrapping_add(mix(t, b, c, d))

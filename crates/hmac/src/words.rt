@@ -58,12 +58,14 @@ pub fn words<B: ByteOrder>(block: &[u8; 64]) -> [u32; 16]
 {
     let (fours, _) = block.as_chunks::<4>();
     let all: &[[u8; 4]; 16] = fours.as_array().unwrap();
-    all.map(|four: [u8; 4]| -> u32
-        ensures { result ≡ word_at B.word four 0 }
-    { B::word(four) })
+    all.map(
+        |four: [u8; 4]| -> u32
+            ensures { result ≡ word_at B.word four 0 }
+        { B::word(four) },
+    )
 }
 
-// Words one after another, byte by byte.
+// Words one after another, byte by byte. `map` asks for a bound on how many it takes, and a digest has fewer than 16.
 pub fn written<B: ByteOrder, const WORDS: usize, const BYTES: usize>(
     words: [u32; WORDS],
 ) -> [u8; BYTES]
@@ -71,9 +73,11 @@ pub fn written<B: ByteOrder, const WORDS: usize, const BYTES: usize>(
     requires few { WORDS ≤ 16 }
     ensures { result ≡ flat_map B.bytes words.entry }
 {
-    let fours = words.map(|x: u32| -> [u8; 4]
-        ensures { result ≡ B.bytes x }
-    { B::bytes(x) });
+    let fours = words.map(
+        |x: u32| -> [u8; 4]
+            ensures { result ≡ B.bytes x }
+        { B::bytes(x) },
+    );
     let mut out = [0; BYTES];
     out.copy_from_slice(fours.as_flattened());
     out
