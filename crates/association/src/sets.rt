@@ -68,11 +68,7 @@ impl Set {
     }
 
     // Opens a packet from the handset to the protected port.
-    pub fn open<'a, S: Suite>(
-        &mut self,
-        port: u16,
-        packet: &'a [u8],
-    ) -> Result<Segment<'a>, Fault>
+    pub fn open<'a, S: Suite>(&mut self, port: u16, packet: &'a [u8]) -> Result<Segment<'a>, Fault>
         ensures { (self.new, seen result) ≡ opened_by S.Suite.macs port packet.now self.old }
     {
         let segment = S::open(&self.parameters.inbound(), &mut self.window, packet)?;

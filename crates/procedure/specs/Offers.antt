@@ -1,8 +1,7 @@
 -- Offers, and the proxy's own list of algorithms.
-use Rattle.std.specs.Prelude.{ℕ, Bool, true, false, cond, not, ◌&&◌, ◌||◌, List, [], ◌∷◌, Some, None, Option, ◌==◌, nat_le}
-use Rattle.integrity.specs.Algorithms.{algorithm_number}
+use Rattle.std.specs.Prelude.{ℕ, Bool, cond, not, ◌&&◌, ◌||◌, List, [], ◌∷◌, is_some, Some, None, Option, ◌==◌, nat_le}
+use Rattle.integrity.specs.Algorithms.{algorithm_by, algorithm_number}
 use Rattle.integrity.specs.declared.algorithm.Algorithm.{Algorithm}
-use Rattle.integrity.specs.declared.algorithm.Algorithm.TheVariants.{One, Two}
 use Rattle.procedure.specs.declared.offer.Offer.{Offer}
 use Rattle.procedure.specs.declared.service.Preference.{Preference}
 use Rattle.procedure.specs.declared.service.Preference.TheVariants as own
@@ -21,33 +20,28 @@ abbrev pub same_offer : Offer → Offer → Bool
 same_offer o w =
     (o.port == w.port) && (o.spi == w.spi && (o.first == w.first && o.second == w.second))
 
--- the algorithm of a number
-abbrev pub algorithm_by : ℕ → Option Algorithm
-algorithm_by n = cond (n == 1) (Some One) (cond (n == 2) (Some Two) None)
+abbrev pub only_of : Option Algorithm → Option Preference
+only_of None = None
+only_of (Some a) = Some (own.Only a)
 
-abbrev pub only_of : Option Algorithm → Preference
-only_of None = own.None
-only_of (Some a) = own.Only a
-
-abbrev pub both_of : Option Algorithm → Option Algorithm → Preference
-both_of None b = own.None
-both_of (Some a) None = own.None
-both_of (Some a) (Some b) = own.Both a b
+abbrev pub both_of : Option Algorithm → Option Algorithm → Option Preference
+both_of None b = None
+both_of (Some a) None = None
+both_of (Some a) (Some b) = Some (own.Both a b)
 
 -- a list of one or two different algorithms, each 1 or 2; every other list says none
-abbrev pub listed : List ℕ → Preference
-listed [] = own.None
+abbrev pub listed : List ℕ → Option Preference
+listed [] = None
 listed (a ∷ []) = only_of (algorithm_by a)
-listed (a ∷ (b ∷ [])) = cond (a == b) own.None (both_of (algorithm_by a) (algorithm_by b))
-listed (a ∷ (b ∷ (c ∷ more))) = own.None
+listed (a ∷ (b ∷ [])) = cond (a == b) None (both_of (algorithm_by a) (algorithm_by b))
+listed (a ∷ (b ∷ (c ∷ more))) = None
 
-abbrev pub serves : Preference → Bool
-serves own.None = false
-serves (own.Only a) = true
-serves (own.Both a b) = true
+-- whether the proxy has an algorithm
+abbrev pub serves : Option Preference → Bool
+serves list = is_some list
 
 -- the first of the proxy's list that the offer has
-abbrev pub common : Preference → Offer → Option Algorithm
-common own.None o = None
-common (own.Only a) o = cond (offer_has o a) (Some a) None
-common (own.Both a b) o = cond (offer_has o a) (Some a) (cond (offer_has o b) (Some b) None)
+abbrev pub common : Option Preference → Offer → Option Algorithm
+common None o = None
+common (Some (own.Only a)) o = cond (offer_has o a) (Some a) None
+common (Some (own.Both a b)) o = cond (offer_has o a) (Some a) (cond (offer_has o b) (Some b) None)

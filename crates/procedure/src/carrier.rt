@@ -1,10 +1,10 @@
 // What a segment goes to the handset by.
-ghost use Rattle.procedure.specs.Carriers.{carrier_number};
+ghost use Rattle.procedure.specs.Carriers.{carrier_number, cover_carrier};
 ghost use Rattle.std.specs.Prelude.{◌≡◌};
 
-use slots::Slot;
+use slots::{Cover, Slot};
 
-#[derive(Clone, Copy)]
+#[derive(Clone, Copy, PartialEq, Eq, Debug)]
 pub enum Carrier {
     // 0: in clear.
     Clear,
@@ -26,8 +26,17 @@ impl Carrier {
     }
 }
 
+// An answer to a REGISTER goes the way the REGISTER came.
+impl From<Cover> for Carrier {
+    ghost from_gives = { λ cover r. r ≡ cover_carrier cover };
+
+    fn from(cover: Cover) -> Carrier {
+        cover.slot().map_or(Carrier::Clear, Carrier::By)
+    }
+}
+
 // How many bytes were written into the output area, and what they go by.
-#[derive(Clone, Copy)]
+#[derive(Clone, Copy, PartialEq, Eq, Debug)]
 pub struct Sent {
     pub bytes: usize,
     pub carrier: Carrier,

@@ -1,7 +1,7 @@
 // What the proxy chose for an offer.
 use integrity::Algorithm;
 
-#[derive(Clone, Copy)]
+#[derive(Clone, Copy, PartialEq, Eq, Debug)]
 pub struct Chosen {
     pub algorithm: Algorithm,
     // The proxy's SPI.

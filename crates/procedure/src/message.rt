@@ -5,7 +5,7 @@ use esp::Segment;
 use slots::Slot;
 
 // A message of the handset.
-#[derive(Clone, Copy)]
+#[derive(Clone, Copy, PartialEq, Eq, Debug)]
 pub enum Message {
     // The first REGISTER of a registration (SM1), with the subscriber that it names.
     Opening { subscriber: u32, offer: Offer },
@@ -16,7 +16,7 @@ pub enum Message {
 }
 
 // How the core concluded a registration.
-#[derive(Clone, Copy)]
+#[derive(Clone, Copy, PartialEq, Eq, Debug)]
 pub enum Outcome {
     // Registered for so many seconds, with the IMPUs of the mask.
     Success { timer: u32, mask: u16 },

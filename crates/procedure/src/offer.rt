@@ -1,15 +1,16 @@
 // What a handset offers in a REGISTER (the Security-Client of TS 33.203, clause 7.2).
-ghost use Rattle.procedure.specs.Offers.{offer_has, offer_right, same_offer};
+ghost use Rattle.procedure.specs.Offers.{offer_has, offer_right};
 ghost use Rattle.std.specs.Prelude.{◌≡◌};
 
 use integrity::Algorithm;
 
-#[derive(Clone, Copy)]
+#[derive(Clone, Copy, PartialEq, Eq, Debug)]
 pub struct Offer {
     // The handset's port and SPI.
     pub port: u16,
     pub spi: u32,
-    // The numbers of one or two algorithms, 0 in place of a second.
+    // The numbers of one or two algorithms as the handset sent them, 0 in place of a second. They stay numbers, since a
+    // wrong one is to be refused with its own fault, and two offers are compared as they were sent.
     pub first: u8,
     pub second: u8,
 }
@@ -32,15 +33,5 @@ impl Offer {
         ensures { result ≡ offer_has self.now algorithm }
     {
         self.first == algorithm.number() || self.second == algorithm.number()
-    }
-
-    // Whether two offers say the same, in the same order.
-    pub fn is(&self, other: &Offer) -> bool
-        ensures { result ≡ same_offer self.now other.now }
-    {
-        self.port == other.port
-            && self.spi == other.spi
-            && self.first == other.first
-            && self.second == other.second
     }
 }

@@ -8,7 +8,7 @@ use integrity::Algorithm;
 use slots::Cover;
 
 // What a procedure keeps of its opening REGISTER.
-#[derive(Clone, Copy)]
+#[derive(Clone, Copy, PartialEq, Eq, Debug)]
 pub struct Procedure {
     pub offer: Offer,
     pub address: Address,
@@ -19,7 +19,7 @@ pub struct Procedure {
     pub cover: Cover,
 }
 
-#[derive(Clone, Copy)]
+#[derive(Clone, Copy, PartialEq, Eq, Debug)]
 pub enum Stage {
     // 0: no procedure runs.
     None,
@@ -34,22 +34,17 @@ pub enum Stage {
 // A stage by its name alone.
 #[derive(Clone, Copy, PartialEq, Eq, Debug)]
 pub enum Phase {
-    None,
-    Offered,
-    Challenged,
-    Answered,
+    None = 0,
+    Offered = 1,
+    Challenged = 2,
+    Answered = 3,
 }
 
 impl Phase {
     pub fn number(self) -> u8
         ensures { result ≡ phase_number self }
     {
-        match self {
-            Phase::None => 0,
-            Phase::Offered => 1,
-            Phase::Challenged => 2,
-            Phase::Answered => 3,
-        }
+        self as u8
     }
 }
 

@@ -14,7 +14,8 @@ use Rattle.registration.specs.Emitting.{Reply, afterwards, emitted, emitted_by, 
 use Rattle.registration.specs.Entering.{entered, entered_by, proxy_spi}
 use Rattle.registration.specs.Keeping.{aged, aged_on, deregistered, refreshed, refreshed_to, with_mask, without}
 use Rattle.procedure.specs.Offers.{common}
-use Rattle.registration.specs.Receiving.{admitted, admitted_as, admitted_by, answered_on, answered_with, heard, opened_on, opening_on, ordinary_on, received, received_as, received_on, response_on, settled_on, slot_cover}
+use Rattle.registration.specs.Receiving.{admitted, admitted_as, admitted_by, answered_on, answered_with, heard, opened_on, opening_on, ordinary_on, received, received_as, received_on, response_on, settled_on}
+use Rattle.slots.specs.Numbers.{slot_cover}
 use Rattle.registration.specs.Rows.{blank, ended, slot_for, with_slots}
 use Rattle.registration.specs.Sending.{challenged, challenged_by, challenged_on, concluded, concluded_on, parameters_of, sent, sent_on, settled, traffic_slot}
 use Rattle.registration.specs.Throughout.{InSlot, InStage, Throughout}

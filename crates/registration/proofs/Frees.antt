@@ -1,26 +1,30 @@
--- The search for a free SPI, one number at a time.
-use Rattle.std.proofs.Common.{◌≡◌, ℕ, suc, ◌+◌, ◌-◌, ◌<◌, Bool, true, false, cond, sym, ap, ◌∙◌, arith}
+-- The search for a free SPI, as the first number of a range that is free.
+use Rattle.std.proofs.Common.{◌≡◌, ℕ, zero, suc, ◌+◌, ◌<◌, ◌≤◌, Bool, true, false, Some, None, Option, MatchOption, inl, inr, arith}
+use Rattle.std.proofs.lemmas.Bool.{cases_Bool}
+use Rattle.std.specs.Option.{unwrap_or}
 use Rattle.registration.specs.Entering.{lowest_free}
 
-one_more : (used : ℕ → Bool) (k q : ℕ) → k < 15
-    → lowest_free used (15 - k) q ≡ cond (used q) (lowest_free used (15 - (k + 1)) (q + 1)) q
+-- what a search over the n numbers from q on finds: the first that is free, or that all are in use
+abbrev pub Finds : (ℕ → Bool) → ℕ → ℕ → Option ℕ → Type 0
+Finds used n q r =
+    MatchOption r ((k : ℕ) → q ≤ k → k < q + n → used k ≡ true)
+    (λ i. (q ≤ i) × (i < q + n) × (used i ≡ false) × ((k : ℕ) → q ≤ k → k < i → used k ≡ true))
+
+free : (used : ℕ → Bool) (n q i : ℕ) → q ≤ i → i < q + n → used i ≡ false → ((k : ℕ) → q ≤ k → k < i → used k ≡ true)
+    → i ≡ lowest_free used n q
 unfolding lowest_free
-one_more used k q h =
-    let e : 15 - k ≡ suc (15 - (k + 1)) = omega arith in
-    ap (λ n. lowest_free used n q) e
+free used zero q i low high here before = omega arith
+free used (suc n) q i low high here before =
+    elim (cases_Bool (used q)) [
+      | inl taken ↦ grind (arith, taken, here, free used n (q + 1) i)
+      | inr clear ↦ grind (arith, clear, here, before q)
+    ]
 
--- a number that is free is the lowest
-pub found : (used : ℕ → Bool) (k q spi : ℕ) → k < 15 → lowest_free used (15 - k) q ≡ spi → false ≡ used q → q ≡ spi
-found used k q spi h inv e = ap (λ b. cond b (lowest_free used (15 - (k + 1)) (q + 1)) q) e ∙ sym (one_more used k q h) ∙ inv
-
--- one in use is passed over
-pub passed : (used : ℕ → Bool) (k q next spi : ℕ) → k < 15 → next ≡ q + 1 → lowest_free used (15 - k) q ≡ spi → true ≡ used q
-    → lowest_free used (15 - (k + 1)) next ≡ spi
-passed used k q next spi h n inv e =
-    ap (λ m. lowest_free used (15 - (k + 1)) m) n
-    ∙ ap (λ b. cond b (lowest_free used (15 - (k + 1)) (q + 1)) q) e ∙ sym (one_more used k q h) ∙ inv
-
--- the last is taken without a question
-pub last : (used : ℕ → Bool) (k q spi : ℕ) → 15 - k ≡ 0 → lowest_free used (15 - k) q ≡ spi → q ≡ spi
+none : (used : ℕ → Bool) (n q : ℕ) → ((k : ℕ) → q ≤ k → k < q + n → used k ≡ true) → q + n ≡ lowest_free used n q
 unfolding lowest_free
-last used k q spi e inv = ap (λ n. lowest_free used n q) (sym e) ∙ inv
+none used zero q all = omega arith
+none used (suc n) q all = grind (arith, all q, none used n (q + 1))
+
+pub found : (used : ℕ → Bool) (n q : ℕ) (r : Option ℕ) → Finds used n q r → unwrap_or r (q + n) ≡ lowest_free used n q
+found used n q None h = none used n q h
+found used n q (Some i) h = free used n q i h.0 h.1 h.2 h.3

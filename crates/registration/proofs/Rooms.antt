@@ -15,7 +15,8 @@ use Rattle.esp.specs.declared.faults.Fault as esp
 use Rattle.esp.specs.declared.faults.Fault.TheVariants.{AreaLength, SegmentLength}
 use Rattle.registration.specs.Emitting.{Reply, copied, emitted, emitted_by, emitted_on, refusal, replied, sealed_in, sending_then, sent_by, unsent, wrong_length}
 use Rattle.registration.specs.Rows.{ended}
-use Rattle.registration.specs.Sending.{challenged, challenged_by, challenged_on, concluded, concluded_on, cover_carrier, cover_stands, sent, sent_on, settled, terms_right, traffic_slot, user_failure_carrier}
+use Rattle.registration.specs.Sending.{challenged, challenged_by, challenged_on, concluded, concluded_on, cover_stands, sent, sent_on, settled, terms_right, traffic_slot, user_failure_carrier}
+use Rattle.procedure.specs.Carriers.{cover_carrier}
 use Rattle.procedure.specs.declared.carrier.Carrier.{Carrier}
 use Rattle.procedure.specs.declared.carrier.Carrier.TheVariants as carrier
 use Rattle.procedure.specs.declared.carrier.Sent.{Sent}

@@ -24,9 +24,9 @@ use Rattle.procedure.specs.declared.service.Service.{Service}
 use Rattle.procedure.specs.declared.stage.Phase.TheVariants as phase
 use Rattle.procedure.specs.declared.stage.Stage.{Stage}
 use Rattle.procedure.specs.declared.stage.Stage.TheVariants as stage
+use Rattle.slots.specs.Numbers.{slot_cover}
 use Rattle.slots.specs.Slots.{at, put}
 use Rattle.slots.specs.declared.cover.Cover.{Cover}
-use Rattle.slots.specs.declared.cover.Cover.TheVariants as cover
 use Rattle.slots.specs.declared.slot.Slot.{Slot}
 use Rattle.slots.specs.declared.slot.Slot.TheVariants as slot
 
@@ -53,12 +53,6 @@ heard_of (Err e) = Err e
 abbrev pub shown_segment : Result Segment Fault → Result (List ℕ × ℕ) Fault
 shown_segment (Ok s) = Ok (s.bytes.now, s.place)
 shown_segment (Err e) = Err e
-
--- the cover of an opening REGISTER that came on a slot; the registration's slot carries no traffic
-abbrev pub slot_cover : Slot → Option Cover
-slot_cover slot.Old = Some cover.Old
-slot_cover slot.Current = Some cover.Current
-slot_cover slot.Registration = None
 
 -- Traffic on slot 2 shows that the handset has taken the new set into use: the old one goes.
 abbrev pub settled_on : Slot → Row → Row

@@ -10,6 +10,7 @@ use Rattle.esp.specs.Asking.{asked}
 use Rattle.registration.specs.Emitting.{Reply, emitted, emitted_by, refusal, sending_then}
 use Rattle.registration.specs.Keeping.{expiry_after, timer_right}
 use Rattle.registration.specs.Rows.{ended}
+use Rattle.procedure.specs.Carriers.{cover_carrier}
 use Rattle.procedure.specs.declared.carrier.Carrier.{Carrier}
 use Rattle.procedure.specs.declared.carrier.Carrier.TheVariants as carrier
 use Rattle.procedure.specs.declared.faults.Fault.TheVariants.{Association, BadTerms, CoverGone, PairInUse, WrongStage}
@@ -27,12 +28,6 @@ use Rattle.slots.specs.declared.cover.Cover.TheVariants as cover
 use Rattle.slots.specs.declared.slot.Slot.{Slot}
 use Rattle.slots.specs.declared.slot.Slot.TheVariants as slot
 use Rattle.slots.specs.declared.three.Slots.{Slots}
-
--- an answer to a REGISTER goes the way the REGISTER came
-abbrev pub cover_carrier : Cover → Carrier
-cover_carrier cover.Clear = carrier.Clear
-cover_carrier cover.Old = carrier.By slot.Old
-cover_carrier cover.Current = carrier.By slot.Current
 
 -- whether the set that the REGISTER came under still stands
 abbrev pub cover_stands : Cover → Slots Set → Bool

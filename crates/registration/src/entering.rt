@@ -2,18 +2,12 @@
 ghost use Rattle.registration.specs.Entering.{entered, in_use, proxy_spi};
 ghost use Rattle.std.specs.Prelude.{◌≡◌};
 
+use crate::blocks::{BLOCK, FIRST_BLOCK};
+use crate::keeping::PATIENCE;
+use crate::origin::Origin;
 use crate::row::Row;
-use association::Address;
-use procedure::{Chosen, Fault, Offer, Procedure, Service, Stage};
+use procedure::{Chosen, Fault, Offer, Procedure, Stage};
 use slots::Cover;
-
-// How long a REGISTER waits for its challenge.
-const PATIENCE: u64 = 240;
-
-// The first SPI of the first subscriber's block, and how many a block has.
-const FIRST_BLOCK: u32 = 4096;
-
-const BLOCK: u32 = 16;
 
 impl Row {
     // Whether an SPI is the offered one or a set's.
@@ -29,49 +23,41 @@ impl Row {
         ensures { result ≡ proxy_spi subscriber offered self.now }
     {
         let first = FIRST_BLOCK + BLOCK * u32::from(subscriber);
-        for k in 0..BLOCK - 1 {
-            if !self.in_use(offered, first + k) {
-                return first + k;
-            }
-        }
-        first + (BLOCK - 1)
+        let last = first + (BLOCK - 1);
+        (first..last)
+            .find(|spi| !self.in_use(offered, *spi))
+            .unwrap_or(last)
     }
 
-    // Begins a procedure, in place of one that runs. `taken` says whether a set of the table has this address and
-    // the offered port.
-    pub fn enter(
-        &mut self,
-        service: Service,
-        subscriber: u16,
-        taken: bool,
-        address: Address,
-        offer: Offer,
-        cover: Cover,
-    ) -> Result<Chosen, Fault>
-        ensures { (self.new, result) ≡ entered service subscriber taken address offer cover self.old }
+    // Begins a procedure, in place of one that runs.
+    #[tactic(auto, unfolding(crate::specs::Entering::entered, esp::specs::Asking::asked))]
+    pub fn enter(&mut self, origin: Origin, offer: Offer, cover: Cover) -> Result<Chosen, Fault>
+        ensures { (self.new, result) ≡ entered origin.service origin.subscriber origin.taken origin.address offer cover self.old }
     {
         if !offer.is_right() {
             return Err(Fault::BadOffer(self.stage.phase()));
         }
-        let Some(algorithm) = service.algorithms.common(&offer) else {
-            return Err(Fault::NoAlgorithm(self.stage.phase()));
-        };
+        let algorithm = origin
+            .service
+            .algorithms
+            .and_then(|own| own.common(&offer))
+            .ok_or(Fault::NoAlgorithm(self.stage.phase()))?;
         if self.uses(offer.spi) {
             return Err(Fault::SpiInUse(self.stage.phase()));
         }
-        if taken {
+        if origin.taken {
             return Err(Fault::PairInUse(self.stage.phase()));
         }
-        let spi = self.proxy_spi(subscriber, offer.spi);
+        let spi = self.proxy_spi(origin.subscriber, offer.spi);
         self.stage = Stage::Offered {
             procedure: Procedure {
                 offer,
-                address,
+                address: origin.address,
                 algorithm,
                 own_spi: spi,
                 cover,
             },
-            deadline: u64::from(service.clock) + PATIENCE,
+            deadline: u64::from(origin.service.clock) + PATIENCE,
         };
         Ok(Chosen { algorithm, spi })
     }

@@ -10,6 +10,9 @@ const LONGEST_TIMER: u32 = 1_000_000;
 // How long a set outlives the timer that the core gave, so that a handset that re-registers in time has one.
 const GRACE: u64 = 30;
 
+// How long the next message of a procedure is waited for.
+pub(crate) const PATIENCE: u64 = 240;
+
 pub(crate) fn timer_right(timer: u32) -> bool
     ensures { result ≡ timer_right timer }
 {
@@ -24,6 +27,7 @@ pub(crate) fn expiry_after(clock: u32, timer: u32) -> u64
 
 impl Row {
     // What the second t ends.
+    #[tactic(auto, unfolding(crate::specs::Keeping::aged, esp::specs::Asking::asked))]
     pub fn expire(&mut self, t: u32)
         ensures { self.new ≡ aged t self.old }
     {
@@ -44,24 +48,24 @@ impl Row {
     }
 
     // Raises the current set's expiry to what a timer gives, if that is later, and answers the expiry.
+    #[tactic(auto, unfolding(crate::specs::Keeping::refreshed, esp::specs::Asking::asked))]
     pub fn refresh(&mut self, clock: u32, timer: u32) -> Result<u64, Fault>
         ensures { (self.new, result) ≡ refreshed clock timer self.old }
     {
         if !timer_right(timer) {
             return Err(Fault::BadTerms(self.stage.phase()));
         }
-        match self.slots.raise_current(expiry_after(clock, timer)) {
-            None => Err(Fault::Association(association::Fault::NoTraffic)),
-            Some(expiry) => Ok(expiry),
-        }
+        let raised = self.slots.raise_current(expiry_after(clock, timer));
+        Ok(raised.ok_or(association::Fault::NoTraffic)?)
     }
 
     // Takes IMPUs from the registered ones, and answers how many are left.
+    #[tactic(auto, unfolding(crate::specs::Keeping::deregistered, esp::specs::Asking::asked))]
     pub fn deregister(&mut self, mask: u16) -> Result<u32, Fault>
         ensures { (self.new, result) ≡ deregistered mask self.old }
     {
         if self.mask == 0 {
-            return Err(Fault::Association(association::Fault::NoImpu));
+            return Err(association::Fault::NoImpu.into());
         }
         self.mask &= !mask;
         let left = self.mask.count_ones();

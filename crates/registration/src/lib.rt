@@ -3,10 +3,14 @@
 // whether another set has the same address and port.
 #![tactic(auto)]
 
+mod blocks;
 mod entering;
 mod keeping;
+mod origin;
 mod receiving;
 mod row;
 mod sending;
 
+pub use blocks::{BLOCK, FIRST_BLOCK};
+pub use origin::Origin;
 pub use row::Row;

@@ -1,24 +1,13 @@
 // A packet from the handset, on the row that has its set.
-ghost use Rattle.registration.specs.Receiving.{admitted, answered_on, heard, heard_of, in_mask, opening_on, ordinary_on, received, response_on, settled_on, shown_segment, slot_cover};
+ghost use Rattle.registration.specs.Receiving.{admitted, answered_on, heard, heard_of, in_mask, opening_on, ordinary_on, received, response_on, settled_on, shown_segment};
+ghost use Rattle.slots.specs.Numbers.{slot_cover};
 ghost use Rattle.std.specs.Prelude.{◌≡◌};
 
+use crate::origin::Origin;
 use crate::row::Row;
-use association::Address;
-use esp::Segment;
-use esp::Suite;
-use procedure::{Arrived, Chosen, Fault, Message, Offer, Service, Stage};
+use esp::{Segment, Suite};
+use procedure::{Arrived, Chosen, Fault, Message, Offer, Stage};
 use slots::{Cover, Slot};
-
-// The cover of an opening REGISTER that came on a slot.
-fn cover_of(slot: Slot) -> Option<Cover>
-    ensures { result ≡ slot_cover slot }
-{
-    match slot {
-        Slot::Old => Some(Cover::Old),
-        Slot::Current => Some(Cover::Current),
-        Slot::Registration => None,
-    }
-}
 
 // Whether an IMPU is in a mask.
 fn in_mask(mask: u16, impu: u8) -> bool
@@ -39,6 +28,7 @@ impl Row {
     }
 
     // Opens a packet by the set in a slot. What its window recorded is kept, whatever comes of the packet.
+    #[tactic(auto, unfolding(crate::specs::Receiving::admitted, esp::specs::Asking::asked))]
     fn admit<'a, S: Suite>(
         &mut self,
         slot: Slot,
@@ -47,54 +37,48 @@ impl Row {
     ) -> Result<Segment<'a>, Fault>
         ensures { (self.new, shown_segment result) ≡ admitted S.Suite.macs port packet.now slot self.old }
     {
-        let Some(mut set) = self.slots.get(slot) else {
-            return Err(Fault::Association(association::Fault::NoSet));
-        };
+        let mut set = self.slots.get(slot).ok_or(association::Fault::NoSet)?;
         let opened = set.open::<S>(port, packet);
         self.slots.set(slot, Some(set));
-        let segment = opened?;
-        Ok(segment)
+        Ok(opened?)
     }
 
     // An opening REGISTER on a slot.
+    #[tactic(auto, unfolding(esp::specs::Asking::asked))]
     fn hear_opening(
         &mut self,
-        service: Service,
-        subscriber: u16,
-        taken: bool,
-        address: Address,
+        origin: Origin,
         slot: Slot,
         named: u32,
         offer: Offer,
     ) -> Result<Option<Chosen>, Fault>
-        ensures { (self.new, result) ≡ opening_on (slot_cover slot) service subscriber taken address slot named offer self.old }
+        ensures { (self.new, result) ≡ opening_on (slot_cover slot) origin.service origin.subscriber origin.taken origin.address slot named offer self.old }
     {
-        let Some(cover) = cover_of(slot) else {
-            return Err(Fault::Association(association::Fault::WrongSlot(slot)));
-        };
-        if named != u32::from(subscriber) {
-            return Err(Fault::Association(association::Fault::NotHis(slot)));
+        let cover = Cover::try_from(slot).map_err(association::Fault::WrongSlot)?;
+        if named != u32::from(origin.subscriber) {
+            return Err(association::Fault::NotHis(slot).into());
         }
-        let chosen = self.enter(service, subscriber, taken, address, offer, cover)?;
+        let chosen = self.enter(origin, offer, cover)?;
         self.settle(slot);
         Ok(Some(chosen))
     }
 
     // The response to the challenge, on a slot.
+    #[tactic(auto, unfolding(esp::specs::Asking::asked))]
     fn hear_response(&mut self, slot: Slot, offer: Offer) -> Result<Option<Chosen>, Fault>
         ensures { (self.new, result) ≡ response_on slot offer self.old }
     {
         match slot {
             Slot::Registration => {}
             Slot::Old | Slot::Current => {
-                return Err(Fault::Association(association::Fault::WrongSlot(slot)));
+                return Err(association::Fault::WrongSlot(slot).into());
             }
         }
         match self.stage {
             Stage::Challenged { procedure } => {
-                if !offer.is(&procedure.offer) {
+                if offer != procedure.offer {
                     self.end();
-                    return Err(Fault::Association(association::Fault::OtherOffer));
+                    return Err(association::Fault::OtherOffer.into());
                 }
                 self.stage = Stage::Answered { procedure };
                 Ok(None)
@@ -106,62 +90,56 @@ impl Row {
     }
 
     // An ordinary message on a slot.
+    #[tactic(auto, unfolding(esp::specs::Asking::asked))]
     fn hear_ordinary(&mut self, slot: Slot, impu: u8) -> Result<Option<Chosen>, Fault>
         ensures { (self.new, result) ≡ ordinary_on (slot_cover slot) slot impu self.old }
     {
-        let Some(_) = cover_of(slot) else {
-            return Err(Fault::Association(association::Fault::WrongSlot(slot)));
-        };
+        Cover::try_from(slot).map_err(association::Fault::WrongSlot)?;
         if !in_mask(self.mask, impu) {
-            return Err(Fault::Association(association::Fault::NotHis(slot)));
+            return Err(association::Fault::NotHis(slot).into());
         }
         self.settle(slot);
         Ok(None)
     }
 
     // What a message does, once its packet is opened.
+    #[tactic(auto, unfolding(crate::specs::Receiving::heard, esp::specs::Asking::asked))]
     fn hear(
         &mut self,
-        service: Service,
-        subscriber: u16,
-        taken: bool,
-        address: Address,
+        origin: Origin,
         slot: Slot,
         message: Message,
     ) -> Result<Option<Chosen>, Fault>
-        ensures { (self.new, result) ≡ heard service subscriber taken address slot message self.old }
+        ensures { (self.new, result) ≡ heard origin.service origin.subscriber origin.taken origin.address slot message self.old }
     {
         match message {
             Message::Opening {
                 subscriber: named,
                 offer,
-            } => self.hear_opening(service, subscriber, taken, address, slot, named, offer),
+            } => self.hear_opening(origin, slot, named, offer),
             Message::Response { offer } => self.hear_response(slot, offer),
             Message::Ordinary { impu } => self.hear_ordinary(slot, impu),
         }
     }
 
-    // A packet from an address to one of the subscriber's sets. `taken` says whether a set of the table has this
-    // address and the port that an opening offers.
+    // A packet to one of the subscriber's sets.
+    #[tactic(auto, unfolding(crate::specs::Receiving::received, esp::specs::Asking::asked))]
     pub fn receive<'a, S: Suite>(
         &mut self,
-        service: Service,
-        subscriber: u16,
-        taken: bool,
-        address: Address,
+        origin: Origin,
         spi: u32,
         packet: &'a [u8],
         message: Message,
     ) -> Result<Arrived<'a>, Fault>
-        ensures { (self.new, heard_of result) ≡ received S.Suite.macs service subscriber taken address spi packet.now message self.old }
+        ensures { (self.new, heard_of result) ≡ received S.Suite.macs origin.service origin.subscriber origin.taken origin.address spi packet.now message self.old }
     {
-        let Some(slot) = self.slot_for(address, spi) else {
-            return Err(Fault::Association(association::Fault::NoSet));
-        };
-        let segment = self.admit::<S>(slot, service.port, packet)?;
-        let chosen = self.hear(service, subscriber, taken, address, slot, message)?;
+        let slot = self
+            .slot_for(origin.address, spi)
+            .ok_or(association::Fault::NoSet)?;
+        let segment = self.admit::<S>(slot, origin.service.port, packet)?;
+        let chosen = self.hear(origin, slot, message)?;
         Ok(Arrived {
-            subscriber: u32::from(subscriber),
+            subscriber: u32::from(origin.subscriber),
             slot,
             segment,
             chosen,

@@ -2,9 +2,9 @@
 ghost use Rattle.std.specs.Prelude.{◌≡◌, ◌≤◌, length};
 ghost use Rattle.esp.specs.Sealing.{laid};
 ghost use Rattle.registration.specs.Emitting.{copied, copy_leaves, emitted, emitted_by, leaves, unsent};
-ghost use Rattle.registration.specs.Sending.{challenged, concluded, cover_carrier, cover_stands, failed_by, parameters_of, sent, terms_right, traffic_slot, user_failure_carrier};
+ghost use Rattle.registration.specs.Sending.{challenged, concluded, cover_stands, failed_by, parameters_of, sent, terms_right, traffic_slot, user_failure_carrier};
 
-use crate::keeping::{expiry_after, timer_right};
+use crate::keeping::{PATIENCE, expiry_after, timer_right};
 use crate::row::Row;
 use association::{Parameters, Set, source_port};
 use esp::Suite;
@@ -12,22 +12,16 @@ use integrity::Ik;
 use procedure::{Carrier, Fault, Outcome, Phase, Procedure, Sent, Service, Stage};
 use slots::{Cover, Slot};
 
-// How long a response is waited for.
-const PATIENCE: u64 = 240;
-
 // The answer where there is no set to send by.
+#[tactic(auto, unfolding(crate::specs::Emitting::unsent, esp::specs::Asking::asked))]
 fn unsent_answer(segment: &[u8]) -> Result<Sent, Fault>
     ensures { result ≡ unsent segment.now }
 {
-    match esp::sealed_len(segment.len()) {
-        Some(_) => Ok(Sent {
-            bytes: 0,
-            carrier: Carrier::Nothing,
-        }),
-        None => Err(Fault::Association(association::Fault::Packet(esp::Fault::SegmentLength(
-            segment.len(),
-        )))),
-    }
+    esp::sealed_len(segment.len()).ok_or(esp::Fault::SegmentLength(segment.len()))?;
+    Ok(Sent {
+        bytes: 0,
+        carrier: Carrier::Nothing,
+    })
 }
 
 // Copies a part to the front of an area.
@@ -40,21 +34,16 @@ fn put_front(part: &[u8], out: &mut [u8])
 }
 
 // Copies a segment that goes in clear. It must not look as if it came from the protected port.
+#[tactic(auto, unfolding(crate::specs::Emitting::copied, esp::specs::Asking::asked))]
 fn copy_clear(port: u16, segment: &[u8], out: &mut [u8]) -> Result<Sent, Fault>
     ensures { (result, out.new) ≡ copy_leaves (copied port segment.now (length out.old)) out.old }
 {
-    if esp::sealed_len(segment.len()).is_none() {
-        return Err(Fault::Association(association::Fault::Packet(esp::Fault::SegmentLength(
-            segment.len(),
-        ))));
-    }
+    esp::sealed_len(segment.len()).ok_or(esp::Fault::SegmentLength(segment.len()))?;
     if source_port(segment) == port {
-        return Err(Fault::Association(association::Fault::SendingPort));
+        return Err(association::Fault::SendingPort.into());
     }
     if out.len() < segment.len() {
-        return Err(Fault::Association(association::Fault::Packet(esp::Fault::AreaLength(
-            out.len(),
-        ))));
+        return Err(esp::Fault::AreaLength(out.len()).into());
     }
     put_front(segment, out);
     Ok(Sent {
@@ -63,25 +52,13 @@ fn copy_clear(port: u16, segment: &[u8], out: &mut [u8]) -> Result<Sent, Fault>
     })
 }
 
-// An answer to a REGISTER goes the way the REGISTER came.
-fn carrier_of(cover: Cover) -> Carrier
-    ensures { result ≡ cover_carrier cover }
-{
-    match cover {
-        Cover::Clear => Carrier::Clear,
-        Cover::Old => Carrier::By(Slot::Old),
-        Cover::Current => Carrier::By(Slot::Current),
-    }
-}
-
 // A user failure answers the response, which came on slot 3 where the REGISTER came in clear.
 fn user_failure_carrier(cover: Cover) -> Carrier
     ensures { result ≡ user_failure_carrier cover }
 {
     match cover {
         Cover::Clear => Carrier::By(Slot::Registration),
-        Cover::Old => Carrier::By(Slot::Old),
-        Cover::Current => Carrier::By(Slot::Current),
+        Cover::Old | Cover::Current => Carrier::from(cover),
     }
 }
 
@@ -121,16 +98,15 @@ impl Row {
     fn traffic_slot(&self) -> Option<Slot>
         ensures { result ≡ traffic_slot self.now.slots }
     {
-        if self.slots.old.is_some() {
-            Some(Slot::Old)
-        } else if self.slots.current.is_some() {
-            Some(Slot::Current)
-        } else {
-            None
+        match (self.slots.old, self.slots.current) {
+            (Some(_), _) => Some(Slot::Old),
+            (None, Some(_)) => Some(Slot::Current),
+            (None, None) => None,
         }
     }
 
     // Sends by the set in a slot.
+    #[tactic(auto, unfolding(crate::specs::Emitting::emitted_by, esp::specs::Asking::asked))]
     fn transmit_by<S: Suite>(
         &mut self,
         slot: Slot,
@@ -152,6 +128,7 @@ impl Row {
     }
 
     // The sending questions.
+    #[tactic(auto, unfolding(crate::specs::Emitting::emitted, esp::specs::Asking::asked))]
     fn transmit<S: Suite>(
         &mut self,
         port: u16,
@@ -169,6 +146,7 @@ impl Row {
     }
 
     // Sends the challenge, and makes the set for its response.
+    #[tactic(auto, unfolding(crate::specs::Sending::challenged, esp::specs::Asking::asked))]
     pub fn challenge<S: Suite>(
         &mut self,
         service: Service,
@@ -191,7 +169,7 @@ impl Row {
                 }
                 let sent = self.transmit::<S>(
                     service.port,
-                    carrier_of(procedure.cover),
+                    Carrier::from(procedure.cover),
                     segment,
                     out,
                 )?;
@@ -225,6 +203,7 @@ impl Row {
     }
 
     // Sends the outcome of a procedure, and ends it.
+    #[tactic(auto, unfolding(crate::specs::Sending::concluded, esp::specs::Asking::asked))]
     pub fn conclude<S: Suite>(
         &mut self,
         service: Service,
@@ -247,19 +226,14 @@ impl Row {
                 Ok(sent)
             }
             (Stage::Answered { procedure }, Outcome::UserFailure) => {
-                self.fail::<S>(
-                    service,
-                    user_failure_carrier(procedure.cover),
-                    segment,
-                    out,
-                )
+                self.fail::<S>(service, user_failure_carrier(procedure.cover), segment, out)
             }
             (
                 Stage::Offered { procedure, .. }
                 | Stage::Challenged { procedure }
                 | Stage::Answered { procedure },
                 Outcome::OtherFailure,
-            ) => self.fail::<S>(service, carrier_of(procedure.cover), segment, out),
+            ) => self.fail::<S>(service, Carrier::from(procedure.cover), segment, out),
             (Stage::None, _)
             | (
                 Stage::Offered { .. } | Stage::Challenged { .. },
@@ -269,16 +243,11 @@ impl Row {
     }
 
     // Sends a message by the set that carries traffic.
-    pub fn send<S: Suite>(
-        &mut self,
-        segment: &[u8],
-        out: &mut [u8],
-    ) -> Result<Sent, Fault>
+    #[tactic(auto, unfolding(crate::specs::Sending::sent, esp::specs::Asking::asked))]
+    pub fn send<S: Suite>(&mut self, segment: &[u8], out: &mut [u8]) -> Result<Sent, Fault>
         ensures { (self.new, result, out.new) ≡ leaves (sent S.Suite.macs segment.now (length out.old) self.old) out.old }
     {
-        match self.traffic_slot() {
-            None => Err(Fault::Association(association::Fault::NoTraffic)),
-            Some(slot) => self.transmit_by::<S>(slot, segment, out),
-        }
+        let slot = self.traffic_slot().ok_or(association::Fault::NoTraffic)?;
+        self.transmit_by::<S>(slot, segment, out)
     }
 }

@@ -22,3 +22,9 @@ abbrev pub cover_slot : Cover → Option Slot
 cover_slot cover.Clear = None
 cover_slot cover.Old = Some slot.Old
 cover_slot cover.Current = Some slot.Current
+
+-- the cover of an opening REGISTER that came on a slot; the registration's slot carries no traffic
+abbrev pub slot_cover : Slot → Option Cover
+slot_cover slot.Old = Some cover.Old
+slot_cover slot.Current = Some cover.Current
+slot_cover slot.Registration = None

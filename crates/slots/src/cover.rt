@@ -1,28 +1,25 @@
 // What an opening REGISTER came under.
-ghost use Rattle.slots.specs.Numbers.{cover_number, cover_slot};
+ghost use Rattle.slots.specs.Numbers.{cover_number, cover_slot, slot_cover};
+ghost use Rattle.std.specs.Option.{ok_or};
 ghost use Rattle.std.specs.Prelude.{◌≡◌};
 
 use crate::slot::Slot;
 
 #[derive(Clone, Copy, PartialEq, Eq, Debug)]
 pub enum Cover {
-    // 0: in clear.
-    Clear,
-    // 1: protected by the old set.
-    Old,
-    // 2: protected by the current set.
-    Current,
+    // In clear.
+    Clear = 0,
+    // Protected by the old set.
+    Old = 1,
+    // Protected by the current set.
+    Current = 2,
 }
 
 impl Cover {
     pub fn number(self) -> u8
         ensures { result ≡ cover_number self }
     {
-        match self {
-            Cover::Clear => 0,
-            Cover::Old => 1,
-            Cover::Current => 2,
-        }
+        self as u8
     }
 
     // The slot of the set that it came under.
@@ -33,6 +30,21 @@ impl Cover {
             Cover::Clear => None,
             Cover::Old => Some(Slot::Old),
             Cover::Current => Some(Slot::Current),
+        }
+    }
+}
+
+// What an opening REGISTER came under that came on a slot. The registration's slot covers none, and is given back.
+impl TryFrom<Slot> for Cover {
+    type Error = Slot;
+
+    ghost try_from_gives = { λ slot r. r ≡ ok_or (slot_cover slot) slot };
+
+    fn try_from(slot: Slot) -> Result<Cover, Slot> {
+        match slot {
+            Slot::Old => Ok(Cover::Old),
+            Slot::Current => Ok(Cover::Current),
+            Slot::Registration => Err(slot),
         }
     }
 }

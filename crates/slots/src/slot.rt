@@ -4,23 +4,22 @@ ghost use Rattle.std.specs.Prelude.{◌≡◌};
 
 #[derive(Clone, Copy, PartialEq, Eq, Debug)]
 pub enum Slot {
-    // 1: the set before the current one.
-    Old,
-    // 2: the set that the last success made.
-    Current,
-    // 3: the set of a registration that is not concluded.
-    Registration,
+    // The set before the current one.
+    Old = 1,
+    // The set that the last success made.
+    Current = 2,
+    // The set of a registration that is not concluded.
+    Registration = 3,
 }
 
 impl Slot {
+    // The lowest first.
+    pub const ALL: [Slot; 3] = [Slot::Old, Slot::Current, Slot::Registration];
+
     // The number that answers and faults name the slot by.
     pub fn number(self) -> u8
         ensures { result ≡ slot_number self }
     {
-        match self {
-            Slot::Old => 1,
-            Slot::Current => 2,
-            Slot::Registration => 3,
-        }
+        self as u8
     }
 }

@@ -17,22 +17,17 @@ pub struct Slots<S> {
 fn live_at<S: Expiring + Copy>(slot: Option<S>, t: u32) -> Option<S>
     ensures { result ≡ live S.Expiring.end t slot }
 {
-    match slot {
-        Some(set) if set.expiry() <= u64::from(t) => None,
-        other => other,
-    }
+    slot.filter(|set| set.expiry() > u64::from(t))
 }
 
 // The later of an expiry and a slot's.
 fn later<S: Expiring + Copy>(expiry: u64, slot: Option<S>) -> u64
     ensures { result ≡ latest_of S.Expiring.end expiry slot }
 {
-    match slot {
-        None => expiry,
-        Some(set) => expiry.max(set.expiry()),
-    }
+    slot.map_or(expiry, |set| expiry.max(set.expiry()))
 }
 
+// A contract here says `self.entry.now` and `self.exit.now`, since `self.old` is a slot.
 impl<S: Expiring + Copy> Slots<S> {
     pub fn new() -> Slots<S>
         ensures { result ≡ empty }
@@ -45,7 +40,7 @@ impl<S: Expiring + Copy> Slots<S> {
     }
 
     pub fn get(&self, slot: Slot) -> Option<S>
-        ensures { result ≡ at slot self.entry.now }
+        ensures { result ≡ at slot self.now }
     {
         match slot {
             Slot::Old => self.old,
@@ -75,7 +70,7 @@ impl<S: Expiring + Copy> Slots<S> {
 
     // The latest of an expiry and those in the slots that carry traffic.
     pub fn latest(&self, expiry: u64) -> u64
-        ensures { result ≡ latest S.Expiring.end expiry self.entry.now }
+        ensures { result ≡ latest S.Expiring.end expiry self.now }
     {
         later(later(expiry, self.old), self.current)
     }
