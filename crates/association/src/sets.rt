@@ -46,6 +46,7 @@ impl Set {
     }
 
     // Seals a segment for the handset. The set stands in `slot`.
+    #[tactic(auto, unfolding(crate::specs::Sealing::sealed_by, esp::specs::Asking::asked))]
     pub fn seal<S: Suite>(
         &mut self,
         slot: Slot,
@@ -54,20 +55,18 @@ impl Set {
     ) -> Result<usize, Fault>
         ensures { (self.new, result, out.new) ≡ leaves (sealed_by S.Suite.macs slot segment.now (length out.old) self.old) out.old }
     {
-        if esp::sealed_len(segment.len()).is_none() {
-            return Err(Fault::Packet(esp::Fault::SegmentLength(segment.len())));
-        }
+        esp::sealed_len(segment.len()).ok_or(esp::Fault::SegmentLength(segment.len()))?;
         if destination_port(segment) != self.parameters.port {
             return Err(Fault::SendingPort);
         }
         if self.sent >= u32::MAX {
             return Err(Fault::CounterSpent(slot));
         }
-        let n = S::seal(&self.parameters.outbound(), &mut self.sent, segment, out)?;
-        Ok(n)
+        Ok(S::seal(&self.parameters.outbound(), &mut self.sent, segment, out)?)
     }
 
     // Opens a packet from the handset to the protected port.
+    #[tactic(auto, unfolding(crate::specs::Opening::opened_by, esp::specs::Asking::asked))]
     pub fn open<'a, S: Suite>(&mut self, port: u16, packet: &'a [u8]) -> Result<Segment<'a>, Fault>
         ensures { (self.new, seen result) ≡ opened_by S.Suite.macs port packet.now self.old }
     {

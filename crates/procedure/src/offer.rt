@@ -23,7 +23,7 @@ impl Offer {
     {
         self.port >= 1
             && self.spi >= 256
-            && (self.first == 1 || self.first == 2)
+            && Algorithm::try_from(self.first).is_ok()
             && self.second <= 2
             && self.second != self.first
     }

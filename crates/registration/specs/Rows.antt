@@ -1,5 +1,5 @@
 -- A row, and the questions to it.
-use Rattle.std.specs.Prelude.{ℕ, Bool, false, cond, ◌||◌, Some, None, Option}
+use Rattle.std.specs.Prelude.{◌≡◌, ℕ, Bool, false, cond, ◌||◌, Some, None, Option}
 use Rattle.association.specs.Asked.{Address}
 use Rattle.association.specs.declared.set.Parameters.{Parameters}
 use Rattle.association.specs.declared.set.Set.{Set}
@@ -27,6 +27,10 @@ ended r = record { slots = put Registration None r.slots; mask = r.mask; stage =
 abbrev pub passes : (Parameters → Bool) → Option Set → Bool
 passes f None = false
 passes f (Some x) = f x.parameters
+
+-- a test of sets, which may answer b of x where `gives x b`, answers of each set what f says of its parameters
+abbrev pub Says : (Set → Bool → Type 0) → (Parameters → Bool) → Type 0
+Says gives f = (x : Set) (b : Bool) → gives x b → b ≡ f x.parameters
 
 abbrev pub in_slots : (Parameters → Bool) → Slots Set → Bool
 in_slots f z = passes f z.old || (passes f z.current || passes f z.registration)

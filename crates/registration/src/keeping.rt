@@ -16,7 +16,7 @@ pub(crate) const PATIENCE: u64 = 240;
 pub(crate) fn timer_right(timer: u32) -> bool
     ensures { result ≡ timer_right timer }
 {
-    1 <= timer && timer <= LONGEST_TIMER
+    (1..=LONGEST_TIMER).contains(&timer)
 }
 
 pub(crate) fn expiry_after(clock: u32, timer: u32) -> u64
@@ -27,23 +27,18 @@ pub(crate) fn expiry_after(clock: u32, timer: u32) -> u64
 
 impl Row {
     // What the second t ends.
-    #[tactic(auto, unfolding(crate::specs::Keeping::aged, esp::specs::Asking::asked))]
+    #[tactic(auto, unfolding(crate::specs::Keeping::aged))]
     pub fn expire(&mut self, t: u32)
         ensures { self.new ≡ aged t self.old }
     {
         self.slots.expire(t);
-        match self.stage {
-            Stage::None => {}
-            Stage::Offered { deadline, .. } => {
-                if deadline <= u64::from(t) {
-                    self.end();
-                }
-            }
-            Stage::Challenged { .. } | Stage::Answered { .. } => {
-                if self.slots.registration.is_none() {
-                    self.end();
-                }
-            }
+        let over = match self.stage {
+            Stage::None => false,
+            Stage::Offered { deadline, .. } => deadline <= u64::from(t),
+            Stage::Challenged { .. } | Stage::Answered { .. } => self.slots.registration.is_none(),
+        };
+        if over {
+            self.end();
         }
     }
 

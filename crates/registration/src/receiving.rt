@@ -28,7 +28,7 @@ impl Row {
     }
 
     // Opens a packet by the set in a slot. What its window recorded is kept, whatever comes of the packet.
-    #[tactic(auto, unfolding(crate::specs::Receiving::admitted, esp::specs::Asking::asked))]
+    #[tactic(auto, unfolding(crate::specs::Receiving::admitted))]
     fn admit<'a, S: Suite>(
         &mut self,
         slot: Slot,
@@ -68,11 +68,8 @@ impl Row {
     fn hear_response(&mut self, slot: Slot, offer: Offer) -> Result<Option<Chosen>, Fault>
         ensures { (self.new, result) ≡ response_on slot offer self.old }
     {
-        match slot {
-            Slot::Registration => {}
-            Slot::Old | Slot::Current => {
-                return Err(association::Fault::WrongSlot(slot).into());
-            }
+        if slot != Slot::Registration {
+            return Err(association::Fault::WrongSlot(slot).into());
         }
         match self.stage {
             Stage::Challenged { procedure } => {
@@ -103,7 +100,7 @@ impl Row {
     }
 
     // What a message does, once its packet is opened.
-    #[tactic(auto, unfolding(crate::specs::Receiving::heard, esp::specs::Asking::asked))]
+    #[tactic(auto, unfolding(crate::specs::Receiving::heard))]
     fn hear(
         &mut self,
         origin: Origin,
@@ -123,7 +120,7 @@ impl Row {
     }
 
     // A packet to one of the subscriber's sets.
-    #[tactic(auto, unfolding(crate::specs::Receiving::received, esp::specs::Asking::asked))]
+    #[tactic(auto, unfolding(crate::specs::Receiving::received))]
     pub fn receive<'a, S: Suite>(
         &mut self,
         origin: Origin,

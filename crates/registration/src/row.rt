@@ -1,9 +1,9 @@
 // A subscriber's row.
-ghost use Rattle.registration.specs.Rows.{blank, ended, in_row};
-ghost use Rattle.association.specs.Asked.{pair_is, spi_is};
-ghost use Rattle.registration.specs.Rows.{in_slots, in_traffic, passes, pending_pair, slot_for};
-ghost use Rattle.association.specs.Asked.{own_is};
-ghost use Rattle.std.specs.Prelude.{◌≡◌};
+ghost use Rattle.association.specs.Asked.{own_is, pair_is, spi_is};
+ghost use Rattle.association.specs.declared.set.Parameters.{Parameters};
+ghost use Rattle.registration.specs.Rows.{blank, ended, in_row, in_traffic, passes, pending_pair, slot_for, Says};
+ghost use Rattle.std.specs.Fn.{FnReturnsAt};
+ghost use Rattle.std.specs.Prelude.{◌≡◌, Bool};
 
 use association::{Address, Set};
 use procedure::Stage;
@@ -17,33 +17,14 @@ pub struct Row {
     pub(crate) stage: Stage,
 }
 
-// Whether a slot has a set of this address and port.
-fn slot_at(slot: &Option<Set>, address: Address, port: u16) -> bool
-    ensures { result ≡ passes (pair_is address port) slot.now }
+// Whether a slot has a set that is such.
+fn has<F: Fn(&Set) -> bool>(slot: &Option<Set>, is_such: &F) -> bool
+    requires { F.IsAlwaysCallable is_such.now }
+    ensures { (f : Parameters → Bool) → Says (FnReturnsAt F.Fn is_such.now) f → result ≡ passes f slot.now }
 {
     match slot {
+        Some(set) => is_such(set),
         None => false,
-        Some(set) => set.is_at(address, port),
-    }
-}
-
-// Whether a slot has a set that uses an SPI.
-fn slot_uses(slot: &Option<Set>, spi: u32) -> bool
-    ensures { result ≡ passes (spi_is spi) slot.now }
-{
-    match slot {
-        None => false,
-        Some(set) => set.uses(spi),
-    }
-}
-
-// Whether a slot has a set that packets from this address to this SPI are for.
-fn slot_takes(slot: &Option<Set>, address: Address, spi: u32) -> bool
-    ensures { result ≡ passes (own_is address spi) slot.now }
-{
-    match slot {
-        None => false,
-        Some(set) => set.takes(address, spi),
     }
 }
 
@@ -59,44 +40,49 @@ impl Row {
         }
     }
 
+    // The lowest slot with a set that is such.
+    fn slot_where<F: Fn(&Set) -> bool>(&self, is_such: F) -> Option<Slot>
+        requires { F.IsAlwaysCallable is_such }
+        ensures { (f : Parameters → Bool) → Says (FnReturnsAt F.Fn is_such) f → result ≡ slot_for f self.now }
+    {
+        if has(&self.slots.old, &is_such) {
+            Some(Slot::Old)
+        } else if has(&self.slots.current, &is_such) {
+            Some(Slot::Current)
+        } else if has(&self.slots.registration, &is_such) {
+            Some(Slot::Registration)
+        } else {
+            None
+        }
+    }
+
     // Whether a set of the subscriber has this address and port.
     pub fn has_pair(&self, address: Address, port: u16) -> bool
         ensures { result ≡ in_row (pair_is address port) self.now }
     {
-        slot_at(&self.slots.old, address, port)
-            || slot_at(&self.slots.current, address, port)
-            || slot_at(&self.slots.registration, address, port)
+        self.slot_where(|set| set.is_at(address, port)).is_some()
     }
 
-    // The same, slot 3 left out.
+    // The same, slot 3 left out: a set in slot 1 or 2 is found before one in slot 3.
     pub fn has_pair_in_traffic(&self, address: Address, port: u16) -> bool
         ensures { result ≡ in_traffic (pair_is address port) self.now }
     {
-        slot_at(&self.slots.old, address, port) || slot_at(&self.slots.current, address, port)
+        self.slot_where(|set| set.is_at(address, port))
+            .is_some_and(|slot| slot != Slot::Registration)
     }
 
     // Whether a set of the subscriber uses an SPI, on either side.
     pub(crate) fn uses(&self, spi: u32) -> bool
         ensures { result ≡ in_row (spi_is spi) self.now }
     {
-        slot_uses(&self.slots.old, spi)
-            || slot_uses(&self.slots.current, spi)
-            || slot_uses(&self.slots.registration, spi)
+        self.slot_where(|set| set.uses(spi)).is_some()
     }
 
     // The slot whose set packets from this address to this SPI are for.
     pub(crate) fn slot_for(&self, address: Address, spi: u32) -> Option<Slot>
         ensures { result ≡ slot_for (own_is address spi) self.now }
     {
-        if slot_takes(&self.slots.old, address, spi) {
-            Some(Slot::Old)
-        } else if slot_takes(&self.slots.current, address, spi) {
-            Some(Slot::Current)
-        } else if slot_takes(&self.slots.registration, address, spi) {
-            Some(Slot::Registration)
-        } else {
-            None
-        }
+        self.slot_where(|set| set.takes(address, spi))
     }
 
     // The address and port of an opening REGISTER that waits for its challenge.

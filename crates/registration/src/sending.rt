@@ -24,15 +24,6 @@ fn unsent_answer(segment: &[u8]) -> Result<Sent, Fault>
     })
 }
 
-// Copies a part to the front of an area.
-fn put_front(part: &[u8], out: &mut [u8])
-    requires { length part.now ≤ length out.old }
-    ensures { out.new ≡ laid part.now out.old }
-{
-    let end = part.len();
-    out[0..end].copy_from_slice(part);
-}
-
 // Copies a segment that goes in clear. It must not look as if it came from the protected port.
 #[tactic(auto, unfolding(crate::specs::Emitting::copied, esp::specs::Asking::asked))]
 fn copy_clear(port: u16, segment: &[u8], out: &mut [u8]) -> Result<Sent, Fault>
@@ -45,7 +36,7 @@ fn copy_clear(port: u16, segment: &[u8], out: &mut [u8]) -> Result<Sent, Fault>
     if out.len() < segment.len() {
         return Err(esp::Fault::AreaLength(out.len()).into());
     }
-    put_front(segment, out);
+    out[0..segment.len()].copy_from_slice(segment);
     Ok(Sent {
         bytes: segment.len(),
         carrier: Carrier::Clear,
@@ -56,10 +47,7 @@ fn copy_clear(port: u16, segment: &[u8], out: &mut [u8]) -> Result<Sent, Fault>
 fn user_failure_carrier(cover: Cover) -> Carrier
     ensures { result ≡ user_failure_carrier cover }
 {
-    match cover {
-        Cover::Clear => Carrier::By(Slot::Registration),
-        Cover::Old | Cover::Current => Carrier::from(cover),
-    }
+    Carrier::By(cover.slot().unwrap_or(Slot::Registration))
 }
 
 fn terms_right(timer: u32, mask: u16) -> bool
@@ -87,18 +75,16 @@ impl Row {
     fn cover_stands(&self, cover: Cover) -> bool
         ensures { result ≡ cover_stands cover self.now.slots }
     {
-        match cover {
-            Cover::Clear => true,
-            Cover::Old => self.slots.old.is_some(),
-            Cover::Current => self.slots.current.is_some(),
-        }
+        cover
+            .slot()
+            .is_none_or(|slot| self.slots.get(slot).is_some())
     }
 
     // The slot that a message to the handset goes by.
     fn traffic_slot(&self) -> Option<Slot>
         ensures { result ≡ traffic_slot self.now.slots }
     {
-        match (self.slots.old, self.slots.current) {
+        match (&self.slots.old, &self.slots.current) {
             (Some(_), _) => Some(Slot::Old),
             (None, Some(_)) => Some(Slot::Current),
             (None, None) => None,
@@ -106,7 +92,7 @@ impl Row {
     }
 
     // Sends by the set in a slot.
-    #[tactic(auto, unfolding(crate::specs::Emitting::emitted_by, esp::specs::Asking::asked))]
+    #[tactic(auto, unfolding(crate::specs::Emitting::emitted_by))]
     fn transmit_by<S: Suite>(
         &mut self,
         slot: Slot,
@@ -128,7 +114,7 @@ impl Row {
     }
 
     // The sending questions.
-    #[tactic(auto, unfolding(crate::specs::Emitting::emitted, esp::specs::Asking::asked))]
+    #[tactic(auto, unfolding(crate::specs::Emitting::emitted))]
     fn transmit<S: Suite>(
         &mut self,
         port: u16,
@@ -145,7 +131,7 @@ impl Row {
         }
     }
 
-    // Sends the challenge, and makes the set for its response.
+    // Sends the challenge, and makes the set for its response. It takes no Origin: the address is the procedure's own.
     #[tactic(auto, unfolding(crate::specs::Sending::challenged, esp::specs::Asking::asked))]
     pub fn challenge<S: Suite>(
         &mut self,
@@ -243,7 +229,7 @@ impl Row {
     }
 
     // Sends a message by the set that carries traffic.
-    #[tactic(auto, unfolding(crate::specs::Sending::sent, esp::specs::Asking::asked))]
+    #[tactic(auto, unfolding(crate::specs::Sending::sent))]
     pub fn send<S: Suite>(&mut self, segment: &[u8], out: &mut [u8]) -> Result<Sent, Fault>
         ensures { (self.new, result, out.new) ≡ leaves (sent S.Suite.macs segment.now (length out.old) self.old) out.old }
     {

@@ -13,9 +13,6 @@ pub enum Slot {
 }
 
 impl Slot {
-    // The lowest first.
-    pub const ALL: [Slot; 3] = [Slot::Old, Slot::Current, Slot::Registration];
-
     // The number that answers and faults name the slot by.
     pub fn number(self) -> u8
         ensures { result ≡ slot_number self }

@@ -96,14 +96,10 @@ impl<S: Expiring + Copy> Slots<S> {
     pub fn raise_current(&mut self, expiry: u64) -> Option<u64>
         ensures { (self.exit.now, result) ≡ raised S.Expiring.end S.Expiring.lasting expiry self.entry.now }
     {
-        match &mut self.current {
-            None => None,
-            Some(set) => {
-                if set.expiry() < expiry {
-                    set.set_expiry(expiry);
-                }
-                Some(set.expiry())
-            }
+        let set = self.current.as_mut()?;
+        if set.expiry() < expiry {
+            set.set_expiry(expiry);
         }
+        Some(set.expiry())
     }
 }
