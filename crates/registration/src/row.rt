@@ -40,7 +40,8 @@ impl Row {
         }
     }
 
-    // The lowest slot with a set that is such.
+    // The lowest slot with a set that is such. A chain of ifs, since with `find` over a list of the slots the goal that the
+    // answer is `slot_for` did not close.
     fn slot_where<F: Fn(&Set) -> bool>(&self, is_such: F) -> Option<Slot>
         requires { F.IsAlwaysCallable is_such }
         ensures { (f : Parameters → Bool) → Says (FnReturnsAt F.Fn is_such) f → result ≡ slot_for f self.now }
