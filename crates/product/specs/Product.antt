@@ -2,7 +2,8 @@
 use Rattle.integrity.specs.Algorithms.{Macs}
 use Rattle.hmac.specs.Algorithms.{hmac_md5_tag, hmac_sha1_tag}
 use Rattle.product.specs.declared.pcscf.Pcscf.{Pcscf}
-use Rattle.proxy.specs.State.{State, state_of}
+use Rattle.proxy.specs.State.{State}
+use Rattle.proxy.specs.Stated.{state_of}
 
 -- 1 is HMAC-MD5-96 (RFC 2403), 2 is HMAC-SHA-1-96 (RFC 2404)
 abbrev pub macs : Macs

@@ -1,7 +1,6 @@
 // The proxy over the product's algorithms. Each call is the proxy's, which docs/machine.md describes.
 ghost use Rattle.std.specs.Prelude.{◌≡◌, ◌≤◌, length, take, IfOk};
 ghost use Rattle.product.specs.Product.{macs, state_in};
-ghost use Rattle.proxy.specs.Housing.{Housed};
 ghost use Rattle.proxy.specs.Machine.{answered, arriving, arriving_wide, challenging, concluding, deregistering, leaves, opened, refreshing, registered, sending, ticked};
 ghost use Rattle.proxy.specs.State.{count_of};
 ghost use Rattle.registration.specs.Receiving.{heard_of};
@@ -22,7 +21,6 @@ impl<'a> Pcscf<'a> {
     // Opens a proxy over some rows, with its protected port and its algorithms by number, the preferred one first.
     pub fn open(rows: &'a mut [Row], port: u16, algorithms: &[u8]) -> Pcscf<'a>
         ensures machine { state_in result ≡ opened rows.old port algorithms.now }
-        ensures housed { Housed (state_in result) }
     {
         Pcscf {
             proxy: Proxy::open(rows, port, algorithms),
@@ -39,7 +37,6 @@ impl<'a> Pcscf<'a> {
     // Sets the clock, and ends what is over then.
     pub fn tick(&mut self, t: u32) -> Result<u32, Fault>
         ensures machine { (state_in self.new, result) ≡ ticked t (state_in self.old) }
-        ensures housed { Housed (state_in self.old) → Housed (state_in self.new) }
     {
         self.proxy.tick(t)
     }
@@ -52,7 +49,6 @@ impl<'a> Pcscf<'a> {
         offer: Offer,
     ) -> Result<Chosen, Fault>
         ensures machine { (state_in self.new, result) ≡ registered address subscriber offer (state_in self.old) }
-        ensures housed { Housed (state_in self.old) → Housed (state_in self.new) }
     {
         self.proxy.register(address, subscriber, offer)
     }
@@ -66,7 +62,6 @@ impl<'a> Pcscf<'a> {
         out: &mut [u8],
     ) -> Result<Sent, Fault>
         ensures machine { (state_in self.new, result, out.new) ≡ leaves (challenging macs subscriber ik.now segment.now (length out.old) (state_in self.old)) out.old }
-        ensures housed { Housed (state_in self.old) → Housed (state_in self.new) }
     {
         self.proxy
             .challenge::<Hmacs>(subscriber, ik, segment, out)
@@ -83,7 +78,6 @@ impl<'a> Pcscf<'a> {
     ) -> Result<Sent, Fault>
         ensures machine { (state_in self.new, result) ≡ answered (challenging macs subscriber ik.now segment.now area (state_in self.old)) }
         ensures wrote { IfOk result (λ s. (s.bytes ≤ 1424) × (take s.bytes out.new ≡ (challenging macs subscriber ik.now segment.now area (state_in self.old)).written)) }
-        ensures housed { Housed (state_in self.old) → Housed (state_in self.new) }
     {
         self.proxy
             .challenge_within::<Hmacs>(subscriber, ik, segment, area, out)
@@ -97,8 +91,7 @@ impl<'a> Pcscf<'a> {
         message: Message,
     ) -> Result<Arrived<'b>, Fault>
         ensures machine { (state_in self.new, heard_of result) ≡ arriving macs address packet.now message (state_in self.old) }
-        ensures housed { Housed (state_in self.old) → Housed (state_in self.new) }
-        ensures wide { Housed (state_in self.old) → (state_in self.new, heard_of result) ≡ arriving_wide macs address packet.now message (state_in self.old) }
+        ensures wide { (state_in self.new, heard_of result) ≡ arriving_wide macs address packet.now message (state_in self.old) }
     {
         self.proxy
             .arrive::<Hmacs>(address, packet, message)
@@ -113,7 +106,6 @@ impl<'a> Pcscf<'a> {
         out: &mut [u8],
     ) -> Result<Sent, Fault>
         ensures machine { (state_in self.new, result, out.new) ≡ leaves (concluding macs subscriber outcome segment.now (length out.old) (state_in self.old)) out.old }
-        ensures housed { Housed (state_in self.old) → Housed (state_in self.new) }
     {
         self.proxy
             .outcome::<Hmacs>(subscriber, outcome, segment, out)
@@ -130,7 +122,6 @@ impl<'a> Pcscf<'a> {
     ) -> Result<Sent, Fault>
         ensures machine { (state_in self.new, result) ≡ answered (concluding macs subscriber outcome segment.now area (state_in self.old)) }
         ensures wrote { IfOk result (λ s. (s.bytes ≤ 1424) × (take s.bytes out.new ≡ (concluding macs subscriber outcome segment.now area (state_in self.old)).written)) }
-        ensures housed { Housed (state_in self.old) → Housed (state_in self.new) }
     {
         self.proxy
             .outcome_within::<Hmacs>(subscriber, outcome, segment, area, out)
@@ -139,7 +130,6 @@ impl<'a> Pcscf<'a> {
     // A message to a subscriber.
     pub fn send(&mut self, subscriber: u32, segment: &[u8], out: &mut [u8]) -> Result<Sent, Fault>
         ensures machine { (state_in self.new, result, out.new) ≡ leaves (sending macs subscriber segment.now (length out.old) (state_in self.old)) out.old }
-        ensures housed { Housed (state_in self.old) → Housed (state_in self.new) }
     {
         self.proxy
             .send::<Hmacs>(subscriber, segment, out)
@@ -155,7 +145,6 @@ impl<'a> Pcscf<'a> {
     ) -> Result<Sent, Fault>
         ensures machine { (state_in self.new, result) ≡ answered (sending macs subscriber segment.now area (state_in self.old)) }
         ensures wrote { IfOk result (λ s. (s.bytes ≤ 1424) × (take s.bytes out.new ≡ (sending macs subscriber segment.now area (state_in self.old)).written)) }
-        ensures housed { Housed (state_in self.old) → Housed (state_in self.new) }
     {
         self.proxy
             .send_within::<Hmacs>(subscriber, segment, area, out)
@@ -164,7 +153,6 @@ impl<'a> Pcscf<'a> {
     // Raises the expiry of a subscriber's current set.
     pub fn refresh(&mut self, subscriber: u32, timer: u32) -> Result<u64, Fault>
         ensures machine { (state_in self.new, result) ≡ refreshing subscriber timer (state_in self.old) }
-        ensures housed { Housed (state_in self.old) → Housed (state_in self.new) }
     {
         self.proxy.refresh(subscriber, timer)
     }
@@ -172,7 +160,6 @@ impl<'a> Pcscf<'a> {
     // Takes IMPUs from a subscriber's registered ones.
     pub fn deregister(&mut self, subscriber: u32, mask: u16) -> Result<u32, Fault>
         ensures machine { (state_in self.new, result) ≡ deregistering subscriber mask (state_in self.old) }
-        ensures housed { Housed (state_in self.old) → Housed (state_in self.new) }
     {
         self.proxy.deregister(subscriber, mask)
     }

@@ -5,29 +5,25 @@ use Rattle.association.specs.Asked.{Address, own_is}
 use Rattle.association.specs.declared.faults.Fault.TheVariants.{NoSet}
 use Rattle.association.specs.declared.set.Parameters.{Parameters}
 use Rattle.association.specs.declared.set.Set.{Set}
-use Rattle.esp.proofs.Asks.{ask_both, ask_no, ask_yes}
+use Rattle.esp.proofs.Asks.{ask_no, ask_yes}
 use Rattle.esp.specs.Asking.{asked}
 use Rattle.esp.specs.Reading.{packet_right, spi_of}
 use Rattle.proxy.proofs.Owners.{owner_none, owner_one, rows_set}
 use Rattle.proxy.specs.Housing.{Housed, HousedAt, Own}
-use Rattle.proxy.specs.Machine.{Sending, arriving, arriving_wide, challenging, concluding, deregistering, emptied, home_of, homed, on_row, opened, owner, received_at, refreshing, registered, sending, sending_on, taken, taken_by, taken_for, ticked, wrong_length}
+use Rattle.proxy.specs.Machine.{arriving, at_time, arriving_wide, emptied, home_of, homed, owner, received_at, wrong_length}
 use Rattle.proxy.specs.State.{State, count_of, put_row, row_of}
-use Rattle.registration.proofs.Closures.{aged_keeps, challenged_keeps, concluded_keeps, deregistered_keeps, entered_keeps, received_keeps, refreshed_keeps, sent_keeps}
-use Rattle.registration.specs.Emitting.{Reply}
-use Rattle.registration.specs.Entering.{block_of, entered, in_use, lowest_free, proxy_spi}
-use Rattle.registration.specs.Keeping.{aged, deregistered, refreshed}
+use Rattle.registration.proofs.Closures.{aged_keeps}
+use Rattle.registration.specs.Entering.{block_of, in_use, lowest_free, proxy_spi}
+use Rattle.registration.specs.Keeping.{aged}
 use Rattle.procedure.specs.Offers.{serves}
 use Rattle.registration.specs.Receiving.{Heard, received}
-use Rattle.registration.specs.Rows.{blank, in_row, passes, pending_pair, slot_for}
-use Rattle.registration.specs.Sending.{challenged, concluded, sent}
+use Rattle.registration.specs.Rows.{blank, in_row, passes, slot_for}
 use Rattle.registration.specs.Throughout.{InSlot}
 use Rattle.procedure.specs.declared.faults.Fault.{Fault}
 use Rattle.procedure.specs.declared.faults.Fault.TheVariants.{Association}
 use Rattle.procedure.specs.declared.message.Message.{Message}
-use Rattle.procedure.specs.declared.message.Outcome.{Outcome}
-use Rattle.procedure.specs.declared.offer.Offer.{Offer}
 use Rattle.registration.specs.declared.row.Row.{Row}
-use Rattle.slots.specs.declared.cover.Cover.TheVariants.{Clear}
+use Rattle.procedure.specs.declared.service.Service.{Service}
 use Rattle.std.proofs.lemmas.List.{set-get_or}
 use Rattle.std.proofs.lemmas.Bool.{and_parts, both_ways, cases_Bool, cond_both, eqb-true, le-leb, le-ltb, lt-ltb, ltb-true, or_parts}
 use lib.ListN.{get_or-map, length-map}
@@ -45,17 +41,10 @@ put_housed σ s r q h =
           (rows_set (HousedAt (count_of σ)) σ.rows s r h.rows q);
     }
 
-on_row_housed : {X : Type 0} (s : ℕ) (act : Row → Row × Result X Fault) (σ : State)
-    → (s < count_of σ → HousedAt (count_of σ) s (row_of σ s) → HousedAt (count_of σ) s (act (row_of σ s)).0)
-    → Housed σ → Housed (on_row s act σ).0
-on_row_housed {X} s act σ f h =
-    ask_both (λ (w : State × Result X Fault). Housed w.0) _ _ _ h
-    (λ e. put_housed σ s _ (f (ltb-true s (count_of σ) e) (h.rows s)) h)
-
-sending_housed : (s : ℕ) (act : Row → Reply) (σ : State)
-    → (HousedAt (count_of σ) s (row_of σ s) → HousedAt (count_of σ) s (act (row_of σ s)).row)
-    → Housed σ → Housed (sending_on s act σ).state
-sending_housed s act σ f h = ask_both (λ (w : Sending). Housed w.state) _ _ _ h (λ e. put_housed σ s _ (f (h.rows s)) h)
+-- a call writes one row, and keeps it housed
+pub row_housed : (σ : State) (s : ℕ) (r w : Row) → r ≡ w → (HousedAt (count_of σ) s (row_of σ s) → HousedAt (count_of σ) s w)
+    → Housed σ → Housed (put_row σ s r)
+row_housed σ s r w e f h = put_housed σ s r (subst (HousedAt (count_of σ) s) (sym e) (f (h.rows s))) h
 
 -- the SPI that is chosen is of the block
 in_block : (used : ℕ → Bool) (k q : ℕ) → (q ≤ lowest_free used k q) × (lowest_free used k q ≤ q + k)
@@ -71,84 +60,26 @@ chosen_own n s offered r lt =
     let b = in_block (in_use offered r) 15 (block_of s) in
     record { subscriber = lt; low = omega (arith, b.0); home = omega (arith, b.0, b.1) }
 
--- opening
-pub opened_housed : (rows : List Row) (port : ℕ) (list : List ℕ) → Housed (opened rows port list)
-unfolding opened
-opened_housed rows port list =
-    record {
-      rows = λ k. subst (HousedAt (count_of (opened rows port list)) k) (sym (get_or-map emptied rows k blank))
-          (record { old = tt; current = tt; registration = tt; stage = tt });
-    }
+-- opening empties all rows
+pub emptied_housed : (old rows : List Row) (v : Service) → rows ≡ map emptied old → Housed (record { rows = rows; service = v })
+emptied_housed old rows v e =
+    let blank_housed : (k : ℕ) → HousedAt (count_of (record { rows = rows; service = v })) k (get_or rows k blank)
+    = λ k. subst (HousedAt _ k) (sym (ap (λ z. get_or z k blank) e ∙ get_or-map emptied old k blank))
+    (record { old = tt; current = tt; registration = tt; stage = tt }) in
+    record { rows = blank_housed }
 
--- the calls
+-- time works on all rows
 aged_blank : (t : ℕ) → aged t blank ≡ blank
 unfolding aged
 aged_blank t = refl
 
-pub ticked_housed : (t : ℕ) (σ : State) → Housed σ → Housed (ticked t σ).0
-unfolding ticked
-ticked_housed t σ h =
-    ask_both (λ (w : State × Result ℕ Fault). Housed w.0) _ _ _ h
-    (λ _. let e : count_of (record { rows = map (aged t) σ.rows; service = σ.service }) ≡ count_of σ
-    = count_by σ (map (aged t) σ.rows) (length-map σ.rows (aged t)) in
+pub aged_housed : (t : ℕ) (σ : State) (rows : List Row) → rows ≡ map (aged t) σ.rows
+    → Housed σ → Housed (record { rows = rows; service = at_time t σ.service })
+aged_housed t σ rows e h =
+    let n : count_of (record { rows = rows; service = at_time t σ.service }) ≡ count_of σ = rw (e, length-map σ.rows (aged t)) in
     record {
-      rows = subst (λ n. (k : ℕ) → HousedAt n k (get_or (map (aged t) σ.rows) k blank)) (sym e)
-          (λ k. subst (HousedAt (count_of σ) k)
-          (sym (get_or-map (aged t) σ.rows k blank) ∙ ap (λ b. get_or (map (aged t) σ.rows) k b) (aged_blank t))
-          (aged_keeps _ _ t (row_of σ k) (h.rows k)));
-    })
-
-pub registered_housed : (a : Address) (s : ℕ) (o : Offer) (σ : State) → Housed σ → Housed (registered a s o σ).0
-unfolding registered
-registered_housed a s o σ h =
-    on_row_housed s (entered σ.service s (taken a o.port σ) a o Clear) σ
-    (λ lt q. entered_keeps _ _ σ.service s (taken a o.port σ) a o Clear (row_of σ s)
-    (λ alg. chosen_own (count_of σ) s o.spi (row_of σ s) lt) q) h
-
-pub challenging_housed : (m : Macs) (s : ℕ) (ik segment : List ℕ) (room : ℕ) (σ : State) → Housed σ
-    → Housed (challenging m s ik segment room σ).state
-unfolding challenging
-challenging_housed m s ik segment room σ h =
-    sending_housed s (challenged m σ.service (taken_for (pending_pair (row_of σ s).stage) s σ) ik segment room) σ
-    (λ q. challenged_keeps _ _ m σ.service (taken_for (pending_pair (row_of σ s).stage) s σ) ik segment room (row_of σ s) (λ p w. w) q) h
-
-pub concluding_housed : (m : Macs) (s : ℕ) (w : Outcome) (segment : List ℕ) (room : ℕ) (σ : State) → Housed σ
-    → Housed (concluding m s w segment room σ).state
-unfolding concluding
-concluding_housed m s w segment room σ h =
-    sending_housed s (concluded m σ.service w segment room) σ
-    (λ q. concluded_keeps _ _ m σ.service w segment room (row_of σ s) q) h
-
-pub sending_call_housed : (m : Macs) (s : ℕ) (segment : List ℕ) (room : ℕ) (σ : State) → Housed σ
-    → Housed (sending m s segment room σ).state
-unfolding sending
-sending_call_housed m s segment room σ h =
-    sending_housed s (sent m segment room) σ (λ q. sent_keeps _ _ m segment room (row_of σ s) q) h
-
-pub refreshing_housed : (s timer : ℕ) (σ : State) → Housed σ → Housed (refreshing s timer σ).0
-unfolding refreshing
-refreshing_housed s timer σ h =
-    on_row_housed s (refreshed σ.service.clock timer) σ (λ _ q. refreshed_keeps _ _ σ.service.clock timer (row_of σ s) q) h
-
-pub deregistering_housed : (s mask : ℕ) (σ : State) → Housed σ → Housed (deregistering s mask σ).0
-unfolding deregistering
-deregistering_housed s mask σ h =
-    on_row_housed s (deregistered mask) σ (λ _ q. deregistered_keeps _ _ mask (row_of σ s) q) h
-
-received_at_housed : (m : Macs) (a : Address) (b : List ℕ) (w : Message) (s : ℕ) (σ : State) → s < count_of σ → Housed σ
-    → Housed (received_at m a b w s σ).0
-received_at_housed m a b w s σ lt h =
-    put_housed σ s _
-    (received_keeps _ _ m σ.service s (taken_by a w σ) a (spi_of b) b w (row_of σ s)
-    (λ o c alg r. chosen_own (count_of σ) s o.spi r lt) (h.rows s)) h
-
-pub arriving_housed : (m : Macs) (a : Address) (b : List ℕ) (w : Message) (σ : State) → Housed σ → Housed (arriving m a b w σ).0
-unfolding arriving
-arriving_housed m a b w σ h =
-    let F : State × Result Heard Fault → Type 0 = λ z. Housed z.0 in
-    ask_both F _ _ _ h (λ _. ask_both F _ _ _ h
-    (λ e. received_at_housed m a b w (home_of (spi_of b)) σ
-    (ltb-true _ _ (and_parts (leb 4096 (spi_of b)) (ltb (home_of (spi_of b)) (count_of σ)) e).1) h))
+      rows = λ k. rw (n, e, ← aged_blank t, get_or-map (aged t) σ.rows k blank) (aged_keeps _ _ t (row_of σ k) (h.rows k));
+    }
 
 -- Where every set stands in the row of its block, the row computed from the SPI is the one that has the set.
 slot_own : (a : Address) (spi : ℕ) (n k : ℕ) (o : Option Set) → InSlot (λ x. Own n k x.own_spi) o → passes (own_is a spi) o ≡ true → Own n k spi

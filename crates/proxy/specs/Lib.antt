@@ -1,4 +1,5 @@
 pub mod State
 pub mod Machine
 pub mod Housing
+pub mod Stated
 pub mod Figures

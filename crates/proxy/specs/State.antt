@@ -1,7 +1,6 @@
 -- The proxy's state: its rows, and what it was opened with.
 use Rattle.std.specs.Prelude.{ℕ, min, Bool, false, cond, ◌||◌, List, [], ◌∷◌, length, slice_index_or, slice_set}
 use Rattle.association.specs.declared.set.Parameters.{Parameters}
-use Rattle.proxy.specs.declared.proxy.Proxy.{Proxy}
 use Rattle.procedure.specs.Offers.{serves}
 use Rattle.registration.specs.Rows.{blank, in_row}
 use Rattle.registration.specs.declared.row.Row.{Row}
@@ -11,9 +10,6 @@ pub record State : Type 0 where
   -- row s is subscriber s's
   pub rows : List Row
   pub service : Service
-
-abbrev pub state_of : Proxy → State
-state_of p = record { rows = p.rows.now; service = p.service }
 
 -- n: how many subscribers there are. At most 4096 rows are used, and none where the proxy was opened with a port or a
 -- list that it does not take.

@@ -1,14 +1,12 @@
 // The calls.
 ghost use Rattle.proxy.specs.Machine.{arriving, arriving_wide, challenging, concluding, deregistering, leaves, refreshing, registered, sending, ticked};
-ghost use Rattle.proxy.specs.Housing.{Housed};
-ghost use Rattle.proxy.specs.State.{state_of};
+ghost use Rattle.proxy.specs.Stated.{state_of};
 ghost use Rattle.registration.specs.Receiving.{heard_of};
 ghost use Rattle.std.specs.Prelude.{◌≡◌, length};
 
 use crate::proxy::Proxy;
 use association::Address;
-use esp::PacketReader;
-use esp::Suite;
+use esp::{PacketReader, Suite};
 use integrity::Ik;
 use procedure::{Arrived, Chosen, Fault, Message, Offer, Outcome, Sent};
 use slots::Cover;
@@ -21,7 +19,6 @@ impl Proxy<'_> {
     pub fn tick(&mut self, t: u32) -> Result<u32, Fault>
         ensures machine { (state_of self.new, result) ≡ ticked t (state_of self.old) }
         ensures stays { self.new.rows.ghost_name ≡ self.old.rows.ghost_name }
-        ensures housed { Housed (state_of self.old) → Housed (state_of self.new) }
     {
         if t < self.service.clock || t > END_OF_TIME {
             return Err(Fault::WrongTime);
@@ -42,11 +39,11 @@ impl Proxy<'_> {
     ) -> Result<Chosen, Fault>
         ensures machine { (state_of self.new, result) ≡ registered address subscriber offer (state_of self.old) }
         ensures stays { self.new.rows.ghost_name ≡ self.old.rows.ghost_name }
-        ensures housed { Housed (state_of self.old) → Housed (state_of self.new) }
     {
         let i = self.row_of(subscriber)?;
         let taken = self.is_taken(address, offer.port);
-        self.rows[i].enter(self.service, i as u16, taken, address, offer, Cover::Clear)
+        let Proxy { rows, service } = self;
+        rows[i].enter(*service, i as u16, taken, address, offer, Cover::Clear)
     }
 
     // The challenge to a subscriber, with the IK that it brings. Answers the bytes written and what they go by.
@@ -59,11 +56,11 @@ impl Proxy<'_> {
     ) -> Result<Sent, Fault>
         ensures machine { (state_of self.new, result, out.new) ≡ leaves (challenging S.Suite.macs subscriber ik.now segment.now (length out.old) (state_of self.old)) out.old }
         ensures stays { self.new.rows.ghost_name ≡ self.old.rows.ghost_name }
-        ensures housed { Housed (state_of self.old) → Housed (state_of self.new) }
     {
         let i = self.row_of(subscriber)?;
         let taken = self.is_taken_for(i);
-        self.rows[i].challenge::<S>(self.service, taken, ik, segment, out)
+        let Proxy { rows, service } = self;
+        rows[i].challenge::<S>(*service, taken, ik, segment, out)
     }
 
     // A packet from an address, with what its message is. Answers the subscriber, the slot of the set that it came on
@@ -76,21 +73,13 @@ impl Proxy<'_> {
     ) -> Result<Arrived<'b>, Fault>
         ensures machine { (state_of self.new, heard_of result) ≡ arriving S.Suite.macs address packet.now message (state_of self.old) }
         ensures stays { self.new.rows.ghost_name ≡ self.old.rows.ghost_name }
-        ensures housed { Housed (state_of self.old) → Housed (state_of self.new) }
-        ensures wide { Housed (state_of self.old) → (state_of self.new, heard_of result) ≡ arriving_wide S.Suite.macs address packet.now message (state_of self.old) }
+        ensures wide { (state_of self.new, heard_of result) ≡ arriving_wide S.Suite.macs address packet.now message (state_of self.old) }
     {
         let spi = PacketReader::new(packet)?.spi();
         let i = self.home_of(spi)?;
         let taken = self.is_taken_by(address, message);
-        self.rows[i].receive::<S>(
-            self.service,
-            i as u16,
-            taken,
-            address,
-            spi,
-            packet,
-            message,
-        )
+        let Proxy { rows, service } = self;
+        rows[i].receive::<S>(*service, i as u16, taken, address, spi, packet, message)
     }
 
     // The outcome of a subscriber's registration. Answers the bytes written and what they go by.
@@ -103,10 +92,10 @@ impl Proxy<'_> {
     ) -> Result<Sent, Fault>
         ensures machine { (state_of self.new, result, out.new) ≡ leaves (concluding S.Suite.macs subscriber outcome segment.now (length out.old) (state_of self.old)) out.old }
         ensures stays { self.new.rows.ghost_name ≡ self.old.rows.ghost_name }
-        ensures housed { Housed (state_of self.old) → Housed (state_of self.new) }
     {
         let i = self.row_of(subscriber)?;
-        self.rows[i].conclude::<S>(self.service, outcome, segment, out)
+        let Proxy { rows, service } = self;
+        rows[i].conclude::<S>(*service, outcome, segment, out)
     }
 
     // A message to a subscriber. Answers the bytes written and what they go by.
@@ -118,29 +107,29 @@ impl Proxy<'_> {
     ) -> Result<Sent, Fault>
         ensures machine { (state_of self.new, result, out.new) ≡ leaves (sending S.Suite.macs subscriber segment.now (length out.old) (state_of self.old)) out.old }
         ensures stays { self.new.rows.ghost_name ≡ self.old.rows.ghost_name }
-        ensures housed { Housed (state_of self.old) → Housed (state_of self.new) }
     {
         let i = self.row_of(subscriber)?;
-        self.rows[i].send::<S>(segment, out)
+        let Proxy { rows, .. } = self;
+        rows[i].send::<S>(segment, out)
     }
 
     // Raises the expiry of a subscriber's current set. Answers the expiry.
     pub fn refresh(&mut self, subscriber: u32, timer: u32) -> Result<u64, Fault>
         ensures machine { (state_of self.new, result) ≡ refreshing subscriber timer (state_of self.old) }
         ensures stays { self.new.rows.ghost_name ≡ self.old.rows.ghost_name }
-        ensures housed { Housed (state_of self.old) → Housed (state_of self.new) }
     {
         let i = self.row_of(subscriber)?;
-        self.rows[i].refresh(self.service.clock, timer)
+        let Proxy { rows, service } = self;
+        rows[i].refresh(service.clock, timer)
     }
 
     // Takes IMPUs from a subscriber's registered ones. Answers how many are left.
     pub fn deregister(&mut self, subscriber: u32, mask: u16) -> Result<u32, Fault>
         ensures machine { (state_of self.new, result) ≡ deregistering subscriber mask (state_of self.old) }
         ensures stays { self.new.rows.ghost_name ≡ self.old.rows.ghost_name }
-        ensures housed { Housed (state_of self.old) → Housed (state_of self.new) }
     {
         let i = self.row_of(subscriber)?;
-        self.rows[i].deregister(mask)
+        let Proxy { rows, .. } = self;
+        rows[i].deregister(mask)
     }
 }

@@ -1,8 +1,8 @@
 // Opening a proxy.
 ghost use Rattle.proxy.specs.Figures.{Figures};
-ghost use Rattle.proxy.specs.Housing.{Housed};
 ghost use Rattle.proxy.specs.Machine.{emptied, opened};
-ghost use Rattle.proxy.specs.State.{count_of, state_of};
+ghost use Rattle.proxy.specs.State.{count_of};
+ghost use Rattle.proxy.specs.Stated.{state_of};
 ghost use Rattle.std.specs.Prelude.{◌≡◌, map};
 
 use crate::proxy::Proxy;
@@ -30,7 +30,6 @@ impl<'a> Proxy<'a> {
     pub fn open(rows: &'a mut [Row], port: u16, algorithms: &[u8]) -> Proxy<'a>
         ensures machine { state_of result ≡ opened rows.old port algorithms.now }
         ensures lent { result.rows.ghost_name ≡ rows.entry.ghost_name }
-        ensures housed { Housed (state_of result) }
         ensures figures { Figures }
     {
         clear(rows);

@@ -1,13 +1,11 @@
 // The calls that send, with an output area that is given by its length: they answer, write and refuse as into an area of
 // that length, of which no more than the longest packet is ever needed.
 ghost use Rattle.std.specs.Prelude.{◌≡◌, ◌≤◌, take, IfOk};
-ghost use Rattle.proxy.specs.Housing.{Housed};
 ghost use Rattle.proxy.specs.Machine.{answered, challenging, concluding, sending};
-ghost use Rattle.proxy.specs.State.{state_of};
+ghost use Rattle.proxy.specs.Stated.{state_of};
 
 use crate::proxy::Proxy;
-use esp::LONGEST_PACKET;
-use esp::Suite;
+use esp::{LONGEST_PACKET, Suite};
 use integrity::Ik;
 use procedure::{Fault, Outcome, Sent};
 
@@ -24,7 +22,6 @@ impl Proxy<'_> {
         ensures machine { (state_of self.new, result) ≡ answered (challenging S.Suite.macs subscriber ik.now segment.now area (state_of self.old)) }
         ensures wrote { IfOk result (λ s. (s.bytes ≤ 1424) × (take s.bytes out.new ≡ (challenging S.Suite.macs subscriber ik.now segment.now area (state_of self.old)).written)) }
         ensures stays { self.new.rows.ghost_name ≡ self.old.rows.ghost_name }
-        ensures housed { Housed (state_of self.old) → Housed (state_of self.new) }
     {
         let room = LONGEST_PACKET.min(area as usize);
         self.challenge::<S>(subscriber, ik, segment, &mut out[0..room])
@@ -42,7 +39,6 @@ impl Proxy<'_> {
         ensures machine { (state_of self.new, result) ≡ answered (concluding S.Suite.macs subscriber outcome segment.now area (state_of self.old)) }
         ensures wrote { IfOk result (λ s. (s.bytes ≤ 1424) × (take s.bytes out.new ≡ (concluding S.Suite.macs subscriber outcome segment.now area (state_of self.old)).written)) }
         ensures stays { self.new.rows.ghost_name ≡ self.old.rows.ghost_name }
-        ensures housed { Housed (state_of self.old) → Housed (state_of self.new) }
     {
         let room = LONGEST_PACKET.min(area as usize);
         self.outcome::<S>(subscriber, outcome, segment, &mut out[0..room])
@@ -59,7 +55,6 @@ impl Proxy<'_> {
         ensures machine { (state_of self.new, result) ≡ answered (sending S.Suite.macs subscriber segment.now area (state_of self.old)) }
         ensures wrote { IfOk result (λ s. (s.bytes ≤ 1424) × (take s.bytes out.new ≡ (sending S.Suite.macs subscriber segment.now area (state_of self.old)).written)) }
         ensures stays { self.new.rows.ghost_name ≡ self.old.rows.ghost_name }
-        ensures housed { Housed (state_of self.old) → Housed (state_of self.new) }
     {
         let room = LONGEST_PACKET.min(area as usize);
         self.send::<S>(subscriber, segment, &mut out[0..room])

@@ -1,35 +1,28 @@
 use Rattle.esp.specs.Asking.{asked}
-use Rattle.proxy.proofs.Housed.{arriving_housed, arriving_wide_same, housed_by}
+use Rattle.proxy.proofs.Housed.{arriving_wide_same, chosen_own, row_housed}
 use Rattle.proxy.proofs.proxy.Proxy.arrive.Goals as goal
 use Rattle.proxy.specs.Machine.{arriving}
-use Rattle.std.proofs.Common.{◌∙◌, rules}
+use Rattle.proxy.specs.State.{count_of}
+use Rattle.proxy.specs.Stated.{state_of}
+use Rattle.registration.proofs.Closures.{received_keeps}
+use Rattle.std.proofs.Common.{arith, ◌<◌, ap, ◌∙◌, rules}
+
+pub invariant_of-self : goal.invariant_of-self
+invariant_of-self g c =
+    let lt : c.in_ok-i.i < count_of (state_of c.args.self.now) = grind (arith, c.in_ok-i.ensures) in
+    record {
+      housed = row_housed _ _ _ _ (ap (λ w. w.0) c.receive.ensures)
+          (received_keeps _ _ _ _ _ _ _ _ _ _ _ (λ o k alg r. chosen_own _ _ _ _ lt)) c.args.self.now.housed;
+    }
 
 pub returns-in_err-new : goal.returns-in_err-new
 unfolding arriving asked
-returns-in_err-new g c =
-    record {
-      machine = search rules;
-      stays = search rules;
-      housed = λ h. h;
-      wide = λ h. search rules ∙ arriving_wide_same g.S.Suite.macs c.args.address c.args.packet.now c.args.message _ h;
-    }
+returns-in_err-new g c = record { machine = search rules; stays = search rules; wide = search rules ∙ arriving_wide_same g.S.Suite.macs c.args.address c.args.packet.now c.args.message _ c.args.self.now.housed }
 
 pub returns-in_err-i : goal.returns-in_err-i
 unfolding arriving asked
-returns-in_err-i g c =
-    record {
-      machine = search rules;
-      stays = search rules;
-      housed = λ h. h;
-      wide = λ h. search rules ∙ arriving_wide_same g.S.Suite.macs c.args.address c.args.packet.now c.args.message _ h;
-    }
+returns-in_err-i g c = record { machine = search rules; stays = search rules; wide = search rules ∙ arriving_wide_same g.S.Suite.macs c.args.address c.args.packet.now c.args.message _ c.args.self.now.housed }
 
 pub returns : goal.returns
 unfolding arriving asked
-returns g c =
-    record {
-      machine = search rules;
-      stays = search rules;
-      housed = λ h. housed_by (search rules) (arriving_housed g.S.Suite.macs c.args.address c.args.packet.now c.args.message _ h);
-      wide = λ h. search rules ∙ arriving_wide_same g.S.Suite.macs c.args.address c.args.packet.now c.args.message _ h;
-    }
+returns g c = record { machine = search rules; stays = search rules; wide = search rules ∙ arriving_wide_same g.S.Suite.macs c.args.address c.args.packet.now c.args.message _ c.args.self.now.housed }

@@ -1,18 +1,18 @@
 use Rattle.esp.specs.Asking.{asked}
-use Rattle.proxy.proofs.Housed.{housed_by, challenging_housed}
+use Rattle.proxy.proofs.Housed.{row_housed}
 use Rattle.proxy.proofs.proxy.Proxy.challenge.Goals as goal
 use Rattle.proxy.specs.Machine.{challenging}
-use Rattle.std.proofs.Common.{length, rules}
+use Rattle.registration.proofs.Closures.{challenged_keeps}
+use Rattle.std.proofs.Common.{ap, rules}
 
-pub returns-in_err-i : goal.returns-in_err-i
-unfolding challenging asked
-returns-in_err-i g c = record { machine = search rules; stays = search rules; housed = λ h. h }
+pub invariant_of-self : goal.invariant_of-self
+invariant_of-self g c =
+    record { housed = row_housed _ _ _ _ (ap (λ w. w.0) c.challenge.ensures) (challenged_keeps _ _ _ _ _ _ _ _ _ (λ p own. own)) c.args.self.now.housed }
 
-pub returns : goal.returns
+pub returns-in_err-i-clause-machine : goal.returns-in_err-i-clause-machine
 unfolding challenging asked
-returns g c =
-    record {
-      machine = search rules;
-      stays = search rules;
-      housed = λ h. housed_by (search rules) (challenging_housed g.S.Suite.macs c.args.subscriber c.args.ik.now c.args.segment.now (length c.args.out.now) _ h);
-    }
+returns-in_err-i-clause-machine g c = search rules
+
+pub returns-clause-machine : goal.returns-clause-machine
+unfolding challenging asked
+returns-clause-machine g c = search rules

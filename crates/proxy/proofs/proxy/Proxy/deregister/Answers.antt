@@ -1,18 +1,18 @@
 use Rattle.esp.specs.Asking.{asked}
-use Rattle.proxy.proofs.Housed.{housed_by, deregistering_housed}
+use Rattle.proxy.proofs.Housed.{row_housed}
 use Rattle.proxy.proofs.proxy.Proxy.deregister.Goals as goal
 use Rattle.proxy.specs.Machine.{deregistering}
-use Rattle.std.proofs.Common.{rules}
+use Rattle.registration.proofs.Closures.{deregistered_keeps}
+use Rattle.std.proofs.Common.{ap, rules}
 
-pub returns-in_err-i : goal.returns-in_err-i
-unfolding deregistering asked
-returns-in_err-i c = record { machine = search rules; stays = search rules; housed = λ h. h }
+pub invariant_of-self : goal.invariant_of-self
+invariant_of-self c =
+    record { housed = row_housed _ _ _ _ (ap (λ w. w.0) c.deregister.ensures) (deregistered_keeps _ _ _ _) c.args.self.now.housed }
 
-pub returns : goal.returns
+pub returns-in_err-i-clause-machine : goal.returns-in_err-i-clause-machine
 unfolding deregistering asked
-returns c =
-    record {
-      machine = search rules;
-      stays = search rules;
-      housed = λ h. housed_by (search rules) (deregistering_housed c.args.subscriber c.args.mask _ h);
-    }
+returns-in_err-i-clause-machine c = search rules
+
+pub returns-clause-machine : goal.returns-clause-machine
+unfolding deregistering asked
+returns-clause-machine c = search rules

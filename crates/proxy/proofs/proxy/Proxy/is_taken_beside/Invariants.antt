@@ -1,6 +1,7 @@
 use Rattle.association.specs.Asked.{pair_is}
 use Rattle.proxy.proofs.proxy.Proxy.is_taken_beside.Given as goal
-use Rattle.proxy.specs.State.{in_table, row_of, state_of}
+use Rattle.proxy.specs.State.{in_table, row_of}
+use Rattle.proxy.specs.Stated.{state_of}
 use Rattle.registration.specs.Rows.{ended}
 use Rattle.std.proofs.Common.{◌≡◌, drop, set}
 

@@ -1,18 +1,18 @@
 use Rattle.esp.specs.Asking.{asked}
-use Rattle.proxy.proofs.Housed.{housed_by, refreshing_housed}
+use Rattle.proxy.proofs.Housed.{row_housed}
 use Rattle.proxy.proofs.proxy.Proxy.refresh.Goals as goal
 use Rattle.proxy.specs.Machine.{refreshing}
-use Rattle.std.proofs.Common.{rules}
+use Rattle.registration.proofs.Closures.{refreshed_keeps}
+use Rattle.std.proofs.Common.{ap, rules}
 
-pub returns-in_err-i : goal.returns-in_err-i
-unfolding refreshing asked
-returns-in_err-i c = record { machine = search rules; stays = search rules; housed = λ h. h }
+pub invariant_of-self : goal.invariant_of-self
+invariant_of-self c =
+    record { housed = row_housed _ _ _ _ (ap (λ w. w.0) c.refresh.ensures) (refreshed_keeps _ _ _ _ _) c.args.self.now.housed }
 
-pub returns : goal.returns
+pub returns-in_err-i-clause-machine : goal.returns-in_err-i-clause-machine
 unfolding refreshing asked
-returns c =
-    record {
-      machine = search rules;
-      stays = search rules;
-      housed = λ h. housed_by (search rules) (refreshing_housed c.args.subscriber c.args.timer _ h);
-    }
+returns-in_err-i-clause-machine c = search rules
+
+pub returns-clause-machine : goal.returns-clause-machine
+unfolding refreshing asked
+returns-clause-machine c = search rules

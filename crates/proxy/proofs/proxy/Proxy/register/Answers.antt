@@ -1,18 +1,24 @@
 use Rattle.esp.specs.Asking.{asked}
-use Rattle.proxy.proofs.Housed.{housed_by, registered_housed}
+use Rattle.proxy.proofs.Housed.{chosen_own, row_housed}
 use Rattle.proxy.proofs.proxy.Proxy.register.Goals as goal
 use Rattle.proxy.specs.Machine.{registered}
-use Rattle.std.proofs.Common.{rules}
+use Rattle.proxy.specs.State.{count_of}
+use Rattle.proxy.specs.Stated.{state_of}
+use Rattle.registration.proofs.Closures.{entered_keeps}
+use Rattle.std.proofs.Common.{arith, ◌<◌, ap, rules}
 
-pub returns-in_err-i : goal.returns-in_err-i
-unfolding registered asked
-returns-in_err-i c = record { machine = search rules; stays = search rules; housed = λ h. h }
-
-pub returns : goal.returns
-unfolding registered asked
-returns c =
+pub invariant_of-self : goal.invariant_of-self
+invariant_of-self c =
+    let lt : c.in_ok-i.i < count_of (state_of c.args.self.now) = grind (arith, c.in_ok-i.ensures) in
     record {
-      machine = search rules;
-      stays = search rules;
-      housed = λ h. housed_by (search rules) (registered_housed c.args.address c.args.subscriber c.args.offer _ h);
+      housed = row_housed _ _ _ _ (ap (λ w. w.0) c.enter.ensures)
+          (entered_keeps _ _ _ _ _ _ _ _ _ (λ alg. chosen_own _ _ _ _ lt)) c.args.self.now.housed;
     }
+
+pub returns-in_err-i-clause-machine : goal.returns-in_err-i-clause-machine
+unfolding registered asked
+returns-in_err-i-clause-machine c = search rules
+
+pub returns-clause-machine : goal.returns-clause-machine
+unfolding registered asked
+returns-clause-machine c = search rules

@@ -1,7 +1,8 @@
-use Rattle.proxy.proofs.Lengths.{sending_counted, sending_room, twelve_by, within}
+use Rattle.proxy.proofs.Lengths.{sending_counted, sending_room, within}
 use Rattle.proxy.proofs.proxy.Proxy.send_within.Goals as goal
 use Rattle.proxy.specs.Machine.{sending}
-use Rattle.proxy.specs.State.{State, state_of}
+use Rattle.proxy.specs.State.{State}
+use Rattle.proxy.specs.Stated.{state_of}
 use Rattle.std.proofs.Common.{arith}
 
 pub returns : goal.returns
@@ -11,4 +12,4 @@ returns g c =
     (omega (arith, c.min-room.ensures)) c.told-out (sending_room g.S.Suite.macs c.args.subscriber c.args.segment.now c.args.area σ)
     (sending_counted g.S.Suite.macs c.args.subscriber c.args.segment.now c.args.area σ g.met.S.Suite.twelve)
     c.send.ensures.machine c.send.auto.out in
-    record { machine = w.0; wrote = w.1; stays = c.send.ensures.stays; housed = c.send.ensures.housed }
+    record { machine = w.0; wrote = w.1; stays = c.send.ensures.stays }
