@@ -19,9 +19,7 @@ const SIP_PORT: u16 = 5060;
 fn clear(rows: &mut [Row])
     ensures { rows.new ≡ map emptied rows.old }
 {
-    for row in rows.iter_mut() {
-        *row = Row::new();
-    }
+    rows.fill(Row::new());
 }
 
 impl<'a> Proxy<'a> {

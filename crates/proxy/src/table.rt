@@ -33,14 +33,14 @@ impl Proxy<'_> {
     pub(crate) fn home_of(&self, spi: u32) -> Result<usize, Fault>
         ensures { MatchResult result (λ i. (i ≡ home_of spi) × (homed spi (state_of self.now) ≡ true) × (i < length self.now.rows.now) × (i < 4096)) (λ e. (e ≡ Association NoSet) × (homed spi (state_of self.now) ≡ false)) }
     {
-        if spi < FIRST_BLOCK {
-            return Err(Fault::Association(association::Fault::NoSet));
-        }
-        let home = ((spi - FIRST_BLOCK) / BLOCK) as usize;
+        let past = spi
+            .checked_sub(FIRST_BLOCK)
+            .ok_or(association::Fault::NoSet)?;
+        let home = (past / BLOCK) as usize;
         if home < self.count() {
             Ok(home)
         } else {
-            Err(Fault::Association(association::Fault::NoSet))
+            Err(association::Fault::NoSet.into())
         }
     }
 
@@ -48,40 +48,27 @@ impl Proxy<'_> {
     pub(crate) fn is_taken(&self, address: Address, port: u16) -> bool
         ensures { result ≡ taken address port (state_of self.now) }
     {
-        for row in self.rows.iter() {
-            if row.has_pair(address, port) {
-                return true;
-            }
-        }
-        false
+        self.rows.iter().any(|row| row.has_pair(address, port))
     }
 
     // The same, slot 3 of the row at a place left out.
     fn is_taken_beside(&self, place: usize, address: Address, port: u16) -> bool
         ensures { result ≡ in_table (pair_is address port) (slice_set self.now.rows.now place (ended (row_of (state_of self.now) place))) }
     {
-        for (i, row) in self.rows.iter().enumerate() {
-            let has = if i == place {
+        self.rows.iter().enumerate().any(|(i, row)| {
+            if i == place {
                 row.has_pair_in_traffic(address, port)
             } else {
                 row.has_pair(address, port)
-            };
-            if has {
-                return true;
             }
-        }
-        false
+        })
     }
 
     // Whether the pair of an opening REGISTER that waits for its challenge is taken outside slot 3 of its row.
     pub(crate) fn is_taken_for(&self, place: usize) -> bool
         ensures { place < length self.now.rows.now → result ≡ taken_for (pending_pair (row_of (state_of self.now) place).stage) place (state_of self.now) }
     {
-        let rows = &*self.rows;
-        if place >= rows.len() {
-            return false;
-        }
-        match rows[place].pending_pair() {
+        match self.rows.get(place).and_then(|row| row.pending_pair()) {
             None => false,
             Some((address, port)) => self.is_taken_beside(place, address, port),
         }

@@ -1,11 +1,8 @@
-use Rattle.proxy.proofs.Tables.{all_done, one_more}
 use Rattle.proxy.proofs.opening.clear.Goals as goal
-use Rattle.proxy.specs.Machine.{emptied}
-use Rattle.std.proofs.Common.{rules}
-
-pub loop-row-preserved : goal.loop-row-preserved
-loop-row-preserved c =
-    one_more emptied c.args.rows.now c.loop-row.rows c.loop-row.row-index _ (search rules) (search rules) c.loop-row.invariant c.new.ensures
+use Rattle.std.proofs.Common.{length, refl, ◌∙◌}
+use Rattle.std.proofs.lemmas.Simd.{splat_is_map}
+use Rattle.registration.specs.Rows.{blank}
 
 pub returns : goal.returns
-returns c = all_done emptied c.args.rows.now c.loop-row.rows c.loop-row.row-index (search rules) c.loop-row.invariant
+returns c =
+    c.fill.ensures.after (λ y e. e) ∙ rw c.new.ensures (splat_is_map c.args.rows.now (length c.args.rows.now) blank refl)

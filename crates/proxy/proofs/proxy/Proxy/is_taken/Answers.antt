@@ -1,16 +1,11 @@
 use Rattle.association.specs.Asked.{pair_is}
-use Rattle.proxy.proofs.Tables.{hit, miss, none}
 use Rattle.proxy.proofs.proxy.Proxy.is_taken.Goals as goal
-use Rattle.std.proofs.Common.{rules}
-
-pub returns-then-has_pair : goal.returns-then-has_pair
-returns-then-has_pair c =
-    hit (pair_is c.args.address c.args.port) c.args.self.now.rows.now c.loop-row.row-index (search rules) c.loop-row.invariant c.if-has_pair.ensures
-
-pub loop-row-preserved : goal.loop-row-preserved
-loop-row-preserved c =
-    miss (pair_is c.args.address c.args.port) c.args.self.now.rows.now c.loop-row.row-index (search rules) c.loop-row.invariant c.if-has_pair.ensures
+use Rattle.proxy.specs.State.{in_table}
+use Rattle.registration.specs.Rows.{blank, in_row}
+use Rattle.std.proofs.Common.{refl, rules}
+use Rattle.std.proofs.lemmas.List.Recursion.{or_is}
 
 pub returns : goal.returns
 returns c =
-    none (pair_is c.args.address c.args.port) c.args.self.now.rows.now c.loop-row.row-index (search rules) c.loop-row.invariant
+    let f = pair_is c.args.address c.args.port in
+    or_is (in_table f) (in_row f) refl (λ _ _. refl) c.args.self.now.rows.now blank _ (search rules) (search rules)
