@@ -63,8 +63,7 @@ impl<'a> Pcscf<'a> {
     ) -> Result<Sent, Fault>
         ensures machine { (state_in self.new, result, out.new) ≡ leaves (challenging macs subscriber ik.now segment.now (length out.old) (state_in self.old)) out.old }
     {
-        self.proxy
-            .challenge::<Hmacs>(subscriber, ik, segment, out)
+        self.proxy.challenge::<Hmacs>(subscriber, ik, segment, out)
     }
 
     // The same as into an area of `area` bytes.
@@ -93,8 +92,7 @@ impl<'a> Pcscf<'a> {
         ensures machine { (state_in self.new, heard_of result) ≡ arriving macs address packet.now message (state_in self.old) }
         ensures wide { (state_in self.new, heard_of result) ≡ arriving_wide macs address packet.now message (state_in self.old) }
     {
-        self.proxy
-            .arrive::<Hmacs>(address, packet, message)
+        self.proxy.arrive::<Hmacs>(address, packet, message)
     }
 
     // The outcome of a subscriber's registration.
@@ -131,8 +129,7 @@ impl<'a> Pcscf<'a> {
     pub fn send(&mut self, subscriber: u32, segment: &[u8], out: &mut [u8]) -> Result<Sent, Fault>
         ensures machine { (state_in self.new, result, out.new) ≡ leaves (sending macs subscriber segment.now (length out.old) (state_in self.old)) out.old }
     {
-        self.proxy
-            .send::<Hmacs>(subscriber, segment, out)
+        self.proxy.send::<Hmacs>(subscriber, segment, out)
     }
 
     // The same as into an area of `area` bytes.

@@ -174,7 +174,3 @@ module _ (m : Macs) (a : Address) (b : List ℕ) (w : Message) (σ : State) (h :
 pub arriving_wide_same : (m : Macs) (a : Address) (b : List ℕ) (w : Message) (σ : State) → Housed σ → arriving m a b w σ ≡ arriving_wide m a b w σ
 unfolding arriving arriving_wide
 arriving_wide_same m a b w σ h = ap (λ z. asked (packet_right (length b)) (σ, Err (wrong_length b)) z) (looked_up m a b w σ h)
-
--- what holds of the machine's state holds of the proxy's
-pub housed_by : {σ ρ : State} → σ ≡ ρ → Housed ρ → Housed σ
-housed_by e h = subst Housed (sym e) h

@@ -1,7 +1,6 @@
 -- Output areas that are given by their lengths.
-use Rattle.std.proofs.Common.{◌≡◌, ℕ, ◌-◌, ◌≤◌, min, ltb, List, [], length, take, IfOk, Err, Result, sym, ap, ◌∙◌, subst, arith}
-use Rattle.integrity.specs.Algorithms.{Mac, Macs}
-use Rattle.integrity.specs.declared.algorithm.Algorithm.TheVariants.{One, Two}
+use Rattle.std.proofs.Common.{◌≡◌, ℕ, ◌-◌, ◌≤◌, min, Bool, ltb, List, [], length, take, IfOk, Err, Result, sym, ap, ◌∙◌, subst, arith}
+use Rattle.integrity.specs.Algorithms.{Macs}
 use Rattle.esp.proofs.Asks.{ask_both}
 use Rattle.esp.proofs.Rooms.{front_of}
 use Rattle.esp.specs.Asking.{asked}
@@ -11,6 +10,7 @@ use Rattle.proxy.specs.State.{State, count_of, put_row, row_of}
 use Rattle.registration.proofs.Rooms.{Counted, Twelve, challenged_counted, challenged_room, concluded_counted, concluded_room, sent_counted, sent_room}
 use Rattle.registration.specs.Emitting.{Reply}
 use Rattle.registration.specs.Rows.{pending_pair}
+use Rattle.registration.specs.Sending.{challenged, concluded, sent}
 use Rattle.procedure.specs.declared.carrier.Sent.{Sent}
 use Rattle.procedure.specs.declared.faults.Fault.{Fault}
 use Rattle.procedure.specs.declared.faults.Fault.TheVariants.{NoSubscriber}
@@ -24,61 +24,55 @@ sent_to s σ p =
     asked (ltb s (count_of σ)) (record { state = σ; result = Err NoSubscriber; written = [] })
     (record { state = put_row σ s p.row; result = p.result; written = p.written })
 
-abbrev pub CountedAll : Sending → Type 0
-CountedAll p = IfOk p.result (λ s. s.bytes ≡ length p.written)
+-- a call needs no longer area than the longest packet, and says how many bytes it wrote
+pub record Clipped (F : ℕ → Sending) (area : ℕ) : Type 0 where
+  pub same : F (min 1424 area) ≡ F area
+  pub counted : IfOk (F area).result (λ s. s.bytes ≡ length (F area).written)
 
-counted_to : (s : ℕ) (σ : State) (p : Reply) → Counted p → CountedAll (sent_to s σ p)
-counted_to s σ p h = ask_both CountedAll _ _ _ tt (λ _. h)
+clipped : (s : ℕ) (σ : State) (act : ℕ → Reply) (area : ℕ) → act (min 1424 area) ≡ act area → Counted (act area)
+    → Clipped (λ n. sent_to s σ (act n)) area
+clipped s σ act area e h =
+    record {
+      same = ap (sent_to s σ) e;
+      counted = ask_both (λ (p : Sending). IfOk p.result (λ s. s.bytes ≡ length p.written)) _ _ _ tt (λ _. h);
+    }
 
-module _ (m : Macs) (s : ℕ) (ik segment : List ℕ) (area : ℕ) (σ : State) where
-  pub challenging_room : challenging m s ik segment (min 1424 area) σ ≡ challenging m s ik segment area σ
+module _ (m : Macs) (t : Twelve m) (s : ℕ) (segment : List ℕ) (area : ℕ) (σ : State) where
+  pub challenging_clipped : (ik : List ℕ) → Clipped (λ n. challenging m s ik segment n σ) area
   unfolding challenging
-  challenging_room = ap (sent_to s σ) (challenged_room area m σ.service (taken_for (pending_pair (row_of σ s).stage) s σ) ik segment (row_of σ s))
+  challenging_clipped ik =
+      let taken : Bool = taken_for (pending_pair (row_of σ s).stage) s σ in
+      clipped s σ (λ n. challenged m σ.service taken ik segment n (row_of σ s)) area
+      (challenged_room area m σ.service taken ik segment (row_of σ s)) (challenged_counted m t area σ.service taken ik segment (row_of σ s))
 
-  pub challenging_counted : Twelve m → CountedAll (challenging m s ik segment area σ)
-  unfolding challenging
-  challenging_counted t = counted_to s σ _ (challenged_counted m t area σ.service (taken_for (pending_pair (row_of σ s).stage) s σ) ik segment (row_of σ s))
-
-module _ (m : Macs) (s : ℕ) (w : Outcome) (segment : List ℕ) (area : ℕ) (σ : State) where
-  pub concluding_room : concluding m s w segment (min 1424 area) σ ≡ concluding m s w segment area σ
+  pub concluding_clipped : (w : Outcome) → Clipped (λ n. concluding m s w segment n σ) area
   unfolding concluding
-  concluding_room = ap (sent_to s σ) (concluded_room area m σ.service w segment (row_of σ s))
+  concluding_clipped w =
+      clipped s σ (λ n. concluded m σ.service w segment n (row_of σ s)) area
+      (concluded_room area m σ.service w segment (row_of σ s)) (concluded_counted m t area σ.service w segment (row_of σ s))
 
-  pub concluding_counted : Twelve m → CountedAll (concluding m s w segment area σ)
-  unfolding concluding
-  concluding_counted t = counted_to s σ _ (concluded_counted m t area σ.service w segment (row_of σ s))
-
-module _ (m : Macs) (s : ℕ) (segment : List ℕ) (area : ℕ) (σ : State) where
-  pub sending_room : sending m s segment (min 1424 area) σ ≡ sending m s segment area σ
+  pub sending_clipped : Clipped (λ n. sending m s segment n σ) area
   unfolding sending
-  sending_room = ap (sent_to s σ) (sent_room area m segment (row_of σ s))
-
-  pub sending_counted : Twelve m → CountedAll (sending m s segment area σ)
-  unfolding sending
-  sending_counted t = counted_to s σ _ (sent_counted m t area segment (row_of σ s))
+  sending_clipped =
+      clipped s σ (λ n. sent m segment n (row_of σ s)) area
+      (sent_room area m segment (row_of σ s)) (sent_counted m t area segment (row_of σ s))
 
 made_at : {X E : Type 0} (P : X → Type 0) (r t : Result X E) → r ≡ t → IfOk t P → IfOk r P
 made_at P r t e h = subst (λ z. IfOk z P) (sym e) h
 
 -- a call that was lent the first `room` bytes of an area of 1424 answers and writes as into an area of `area` bytes
 pub within : (F : ℕ → Sending) (area room : ℕ) (out part : List ℕ) (σ : State) (r : Result Sent Fault) → room ≡ min 1424 area → length out ≡ 1424
-    → F (min 1424 area) ≡ F area → CountedAll (F area)
+    → Clipped F area
     → (σ, r, part) ≡ leaves (F (length (mid_of 0 (room - 0) out))) (mid_of 0 (room - 0) out)
     → length part ≡ length (mid_of 0 (room - 0) out)
     → ((σ, r) ≡ answered (F area)) × IfOk r (λ s. (s.bytes ≤ 1424) × (take s.bytes (put_mid 0 (room - 0) out part) ≡ (F area).written))
-within F area room out part σ r er eo same counted ran kept =
+within F area room out part σ r er eo fits ran kept =
     let lent : List ℕ = mid_of 0 (room - 0) out in
     let long : length lent ≡ min 1424 area = simp length-take (omega arith) in
-    let e : F (length lent) ≡ F area = ap F long ∙ same in
+    let e : F (length lent) ≡ F area = ap F long ∙ fits.same in
     let result : r ≡ (F area).result = ap (λ (w : State × Result Sent Fault × List ℕ). w.1) ran ∙ ap (λ (p : Sending). p.result) e in (
       ap (λ (w : State × Result Sent Fault × List ℕ). (w.0, w.1)) ran ∙ ap answered e,
       front_of (λ (s : Sent). s.bytes) r (F area).written out part room
-          (made_at (λ (s : Sent). s.bytes ≡ length (F area).written) r (F area).result result counted) eo (omega arith)
+          (made_at (λ (s : Sent). s.bytes ≡ length (F area).written) r (F area).result result fits.counted) eo (omega arith)
           (ap (λ (w : State × Result Sent Fault × List ℕ). w.2) ran ∙ ap (λ (p : Sending). laid p.written lent) e) kept,
     )
-
--- two algorithms of twelve bytes
-pub twelve_by : (one two : Mac) → ((ik text : List ℕ) → length (one ik text) ≡ 12) → ((ik text : List ℕ) → length (two ik text) ≡ 12)
-    → Twelve (record { one = one; two = two })
-twelve_by one two f h One ik text = f ik text
-twelve_by one two f h Two ik text = h ik text

@@ -1,23 +1,11 @@
--- Work over all rows, and scans of the table, one row at a time.
+-- The search of the table that leaves slot 3 of one row out.
 use Rattle.std.specs.List.{enumerate_from, list_any}
 use Rattle.std.proofs.lemmas.Bool.{eq-eqb, ne_eqb}
-use Rattle.std.proofs.Common.{◌≡◌, ℕ, zero, suc, [], ◌∷◌, cond, eqb, refl, ◌+◌, ◌<◌, ◌≤◌, Bool, ◌||◌, List, ◌++◌, map, length, get_or, take, drop, set, ap, ◌∙◌, arith}
+use Rattle.std.proofs.Common.{◌≡◌, ℕ, zero, suc, [], ◌∷◌, cond, eqb, refl, ◌+◌, ◌<◌, Bool, ◌||◌, List, get_or, set, ap, arith}
 use Rattle.association.specs.declared.set.Parameters.{Parameters}
 use Rattle.proxy.specs.State.{in_table}
 use Rattle.registration.specs.Rows.{blank, ended, in_row, in_traffic}
 use Rattle.registration.specs.declared.row.Row.{Row}
-use Rattle.std.proofs.lemmas.List.Edits.{map_over_more}
-use Rattle.std.proofs.lemmas.List.{append-nil, drop_all, get_or_default, take_all}
-
--- the first i rows are changed, and then one more
-pub one_more : (f : Row → Row) (xs ys : List Row) (i : ℕ) (v : Row) → i < length ys → length ys ≡ length xs
-    → ys ≡ map f (take i xs) ++ drop i xs → v ≡ f (get_or ys i blank)
-    → set ys i v ≡ map f (take (i + 1) xs) ++ drop (i + 1) xs
-one_more f xs ys i v lt n e w =
-    rw w (map_over_more f xs ys i (get_or ys i blank) (omega arith) e (get_or_default ys i blank (get_or ys i blank) lt))
-
-pub all_done : (f : Row → Row) (xs ys : List Row) (i : ℕ) → length xs ≤ i → ys ≡ map f (take i xs) ++ drop i xs → ys ≡ map f xs
-all_done f xs ys i h e = e ∙ rw (take_all i xs h, drop_all i xs h) (append-nil (map f xs))
 
 -- the test of the row at a number, which is asked outside its slot 3 at `place`
 abbrev pub beside : (Parameters → Bool) → ℕ → ℕ × Row → Bool

@@ -25,7 +25,6 @@ use Rattle.procedure.specs.declared.message.Message.TheVariants.{Opening, Ordina
 use Rattle.procedure.specs.declared.message.Outcome.{Outcome}
 use Rattle.procedure.specs.declared.offer.Offer.{Offer}
 use Rattle.registration.specs.declared.row.Row.{Row}
-use Rattle.procedure.specs.declared.service.Preference.TheVariants as own
 use Rattle.procedure.specs.declared.service.Service.{Service}
 use Rattle.slots.specs.declared.cover.Cover.TheVariants.{Clear}
 
@@ -40,7 +39,7 @@ unfoldable pub opened : List Row → ℕ → List ℕ → State
 opened rows port list =
     record {
       rows = map emptied rows;
-      service = record { clock = 0; port = port; algorithms = cond (port_right port) (listed list) own.None };
+      service = record { clock = 0; port = port; algorithms = cond (port_right port) (listed list) None };
     }
 
 -- Time goes on, to at most 4,000,000,000.

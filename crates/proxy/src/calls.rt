@@ -1,4 +1,5 @@
-// The calls.
+// The calls. That the rows stay the same loan stands in each (`stays`): a type says what holds at one time, and not what
+// stays from before a call to after it.
 ghost use Rattle.proxy.specs.Machine.{arriving, arriving_wide, challenging, concluding, deregistering, leaves, refreshing, registered, sending, ticked};
 ghost use Rattle.proxy.specs.Stated.{state_of};
 ghost use Rattle.registration.specs.Receiving.{heard_of};
@@ -9,6 +10,7 @@ use association::Address;
 use esp::{PacketReader, Suite};
 use integrity::Ik;
 use procedure::{Arrived, Chosen, Fault, Message, Offer, Outcome, Sent};
+use registration::Origin;
 use slots::Cover;
 
 // The last second.
@@ -16,6 +18,7 @@ const END_OF_TIME: u32 = 4_000_000_000;
 
 impl Proxy<'_> {
     // Sets the clock, and ends what is over then. Answers the clock.
+    #[tactic(auto, unfolding(crate::specs::Machine::ticked, esp::specs::Asking::asked))]
     pub fn tick(&mut self, t: u32) -> Result<u32, Fault>
         ensures machine { (state_of self.new, result) ≡ ticked t (state_of self.old) }
         ensures stays { self.new.rows.ghost_name ≡ self.old.rows.ghost_name }
@@ -31,6 +34,7 @@ impl Proxy<'_> {
     }
 
     // An opening REGISTER in clear. Answers the algorithm and the proxy's SPI.
+    #[tactic(auto, unfolding(crate::specs::Machine::registered, esp::specs::Asking::asked))]
     pub fn register(
         &mut self,
         address: Address,
@@ -41,12 +45,18 @@ impl Proxy<'_> {
         ensures stays { self.new.rows.ghost_name ≡ self.old.rows.ghost_name }
     {
         let i = self.row_of(subscriber)?;
-        let taken = self.is_taken(address, offer.port);
-        let Proxy { rows, service } = self;
-        rows[i].enter(*service, i as u16, taken, address, offer, Cover::Clear)
+        let origin = Origin {
+            service: self.service,
+            subscriber: i as u16,
+            address,
+            taken: self.is_taken(address, offer.port),
+        };
+        let Proxy { rows, .. } = self;
+        rows[i].enter(origin, offer, Cover::Clear)
     }
 
     // The challenge to a subscriber, with the IK that it brings. Answers the bytes written and what they go by.
+    #[tactic(auto, unfolding(crate::specs::Machine::challenging, esp::specs::Asking::asked))]
     pub fn challenge<S: Suite>(
         &mut self,
         subscriber: u32,
@@ -65,6 +75,7 @@ impl Proxy<'_> {
 
     // A packet from an address, with what its message is. Answers the subscriber, the slot of the set that it came on
     // and the segment, and to an opening REGISTER also the algorithm and the proxy's SPI.
+    #[tactic(auto, unfolding(crate::specs::Machine::arriving, esp::specs::Asking::asked))]
     pub fn arrive<'b, S: Suite>(
         &mut self,
         address: Address,
@@ -77,12 +88,18 @@ impl Proxy<'_> {
     {
         let spi = PacketReader::new(packet)?.spi();
         let i = self.home_of(spi)?;
-        let taken = self.is_taken_by(address, message);
-        let Proxy { rows, service } = self;
-        rows[i].receive::<S>(*service, i as u16, taken, address, spi, packet, message)
+        let origin = Origin {
+            service: self.service,
+            subscriber: i as u16,
+            address,
+            taken: self.is_taken_by(address, message),
+        };
+        let Proxy { rows, .. } = self;
+        rows[i].receive::<S>(origin, spi, packet, message)
     }
 
     // The outcome of a subscriber's registration. Answers the bytes written and what they go by.
+    #[tactic(auto, unfolding(crate::specs::Machine::concluding, esp::specs::Asking::asked))]
     pub fn outcome<S: Suite>(
         &mut self,
         subscriber: u32,
@@ -99,6 +116,7 @@ impl Proxy<'_> {
     }
 
     // A message to a subscriber. Answers the bytes written and what they go by.
+    #[tactic(auto, unfolding(crate::specs::Machine::sending, esp::specs::Asking::asked))]
     pub fn send<S: Suite>(
         &mut self,
         subscriber: u32,
@@ -114,6 +132,7 @@ impl Proxy<'_> {
     }
 
     // Raises the expiry of a subscriber's current set. Answers the expiry.
+    #[tactic(auto, unfolding(crate::specs::Machine::refreshing, esp::specs::Asking::asked))]
     pub fn refresh(&mut self, subscriber: u32, timer: u32) -> Result<u64, Fault>
         ensures machine { (state_of self.new, result) ≡ refreshing subscriber timer (state_of self.old) }
         ensures stays { self.new.rows.ghost_name ≡ self.old.rows.ghost_name }
@@ -124,6 +143,7 @@ impl Proxy<'_> {
     }
 
     // Takes IMPUs from a subscriber's registered ones. Answers how many are left.
+    #[tactic(auto, unfolding(crate::specs::Machine::deregistering, esp::specs::Asking::asked))]
     pub fn deregister(&mut self, subscriber: u32, mask: u16) -> Result<u32, Fault>
         ensures machine { (state_of self.new, result) ≡ deregistering subscriber mask (state_of self.old) }
         ensures stays { self.new.rows.ghost_name ≡ self.old.rows.ghost_name }

@@ -25,6 +25,7 @@ fn clear(rows: &mut [Row])
 impl<'a> Proxy<'a> {
     // A proxy over some rows, with a protected port and a list of algorithm numbers, the preferred one first. All rows
     // are emptied. With a port or a list that it does not take the proxy has no subscriber.
+    #[tactic(auto, using(crate::proofs::Worked::figures), unfolding(crate::specs::Machine::opened))]
     pub fn open(rows: &'a mut [Row], port: u16, algorithms: &[u8]) -> Proxy<'a>
         ensures machine { state_of result ≡ opened rows.old port algorithms.now }
         ensures lent { result.rows.ghost_name ≡ rows.entry.ghost_name }
@@ -32,7 +33,7 @@ impl<'a> Proxy<'a> {
     {
         clear(rows);
         let algorithms = if port == 0 || port == SIP_PORT {
-            Preference::None
+            None
         } else {
             Preference::of(algorithms)
         };
@@ -50,7 +51,7 @@ impl<'a> Proxy<'a> {
     pub fn count(&self) -> usize
         ensures { result ≡ count_of (state_of self.now) }
     {
-        if self.service.algorithms.serves() {
+        if self.service.serves() {
             self.rows.len().min(MOST)
         } else {
             0

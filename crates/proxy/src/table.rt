@@ -1,4 +1,4 @@
-// What a call asks of the whole table.
+// What a call asks of the whole table. A row is named by its place, as the rows are lent in one slice and changed there.
 ghost use Rattle.association.specs.Asked.{pair_is};
 ghost use Rattle.proxy.specs.Machine.{home_of, homed, taken, taken_by, taken_for};
 ghost use Rattle.proxy.specs.State.{count_of, in_table, row_of};
@@ -11,11 +11,7 @@ ghost use Rattle.association.specs.declared.faults.Fault.TheVariants.{NoSet};
 use crate::proxy::Proxy;
 use association::Address;
 use procedure::{Fault, Message};
-
-// The first SPI of the first subscriber's block, and how many a block has.
-const FIRST_BLOCK: u32 = 4096;
-
-const BLOCK: u32 = 16;
+use registration::{BLOCK, FIRST_BLOCK};
 
 impl Proxy<'_> {
     // The place of a subscriber's row, if there is such a subscriber.

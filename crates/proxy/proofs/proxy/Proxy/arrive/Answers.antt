@@ -15,14 +15,14 @@ invariant_of-self g c =
           (received_keeps _ _ _ _ _ _ _ _ _ _ _ (λ o k alg r. chosen_own _ _ _ _ lt)) c.args.self.now.housed;
     }
 
-pub returns-in_err-new : goal.returns-in_err-new
+pub returns-in_err-new-clause-wide : goal.returns-in_err-new-clause-wide
 unfolding arriving asked
-returns-in_err-new g c = record { machine = search rules; stays = search rules; wide = search rules ∙ arriving_wide_same g.S.Suite.macs c.args.address c.args.packet.now c.args.message _ c.args.self.now.housed }
+returns-in_err-new-clause-wide g c = search rules ∙ arriving_wide_same _ _ _ _ _ c.args.self.now.housed
 
-pub returns-in_err-i : goal.returns-in_err-i
+pub returns-in_err-i-clause-wide : goal.returns-in_err-i-clause-wide
 unfolding arriving asked
-returns-in_err-i g c = record { machine = search rules; stays = search rules; wide = search rules ∙ arriving_wide_same g.S.Suite.macs c.args.address c.args.packet.now c.args.message _ c.args.self.now.housed }
+returns-in_err-i-clause-wide g c = search rules ∙ arriving_wide_same _ _ _ _ _ c.args.self.now.housed
 
-pub returns : goal.returns
+pub returns-clause-wide : goal.returns-clause-wide
 unfolding arriving asked
-returns g c = record { machine = search rules; stays = search rules; wide = search rules ∙ arriving_wide_same g.S.Suite.macs c.args.address c.args.packet.now c.args.message _ c.args.self.now.housed }
+returns-clause-wide g c = search rules ∙ arriving_wide_same _ _ _ _ _ c.args.self.now.housed

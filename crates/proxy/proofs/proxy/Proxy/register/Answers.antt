@@ -1,11 +1,9 @@
-use Rattle.esp.specs.Asking.{asked}
 use Rattle.proxy.proofs.Housed.{chosen_own, row_housed}
 use Rattle.proxy.proofs.proxy.Proxy.register.Goals as goal
-use Rattle.proxy.specs.Machine.{registered}
 use Rattle.proxy.specs.State.{count_of}
 use Rattle.proxy.specs.Stated.{state_of}
 use Rattle.registration.proofs.Closures.{entered_keeps}
-use Rattle.std.proofs.Common.{arith, ◌<◌, ap, rules}
+use Rattle.std.proofs.Common.{arith, ◌<◌, ap}
 
 pub invariant_of-self : goal.invariant_of-self
 invariant_of-self c =
@@ -14,11 +12,3 @@ invariant_of-self c =
       housed = row_housed _ _ _ _ (ap (λ w. w.0) c.enter.ensures)
           (entered_keeps _ _ _ _ _ _ _ _ _ (λ alg. chosen_own _ _ _ _ lt)) c.args.self.now.housed;
     }
-
-pub returns-in_err-i-clause-machine : goal.returns-in_err-i-clause-machine
-unfolding registered asked
-returns-in_err-i-clause-machine c = search rules
-
-pub returns-clause-machine : goal.returns-clause-machine
-unfolding registered asked
-returns-clause-machine c = search rules
