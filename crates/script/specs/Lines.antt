@@ -3,7 +3,7 @@ use Rattle.std.specs.Prelude.{ℕ, ◌-◌, Bool, cond, ◌&&◌, List, [], ◌�
 use Rattle.script.specs.Fields.{split}
 use Rattle.script.specs.Hex.{bytes_of}
 use Rattle.script.specs.Packets.{packet_by, packet_of}
-use Rattle.script.specs.Words.{algorithm_of, ended, field, ik_of, number32}
+use Rattle.script.specs.Words.{algorithm_of, association, ended, field, ik_of, number32}
 use Rattle.script.specs.declared.fields.Separator.TheVariants.{Space}
 use Rattle.script.specs.declared.line.Line.{Line}
 use Rattle.script.specs.declared.line.Line.TheVariants.{Seal, Skipped, Tag, Unseal, Window}
@@ -16,8 +16,8 @@ tag_line ws = field algorithm_of ws (λ a ws. field ik_of ws (λ k ws. field byt
 --   seal ALG IK SPI COUNT SEGMENT AREA
 abbrev pub seal_line : List (List ℕ) → Option (Line (List ℕ))
 seal_line ws =
-    field algorithm_of ws (λ a ws. field ik_of ws (λ k ws. field number32 ws (λ spi ws. field number32 ws (λ count ws.
-    field bytes_of ws (λ segment ws. field number32 ws (λ area ws. ended (Seal a k spi count segment area) ws))))))
+    association ws (λ to ws. field number32 ws (λ count ws. field bytes_of ws (λ segment ws. field number32 ws (λ area ws.
+    ended (Seal to count segment area) ws))))
 
 --   window
 abbrev pub window_line : List (List ℕ) → Option (Line (List ℕ))
@@ -26,8 +26,7 @@ window_line ws = ended Window ws
 --   unseal ALG IK SPI PACKET
 abbrev pub unseal_line : List (List ℕ) → Option (Line (List ℕ))
 unseal_line ws =
-    field algorithm_of ws (λ a ws. field ik_of ws (λ k ws. field number32 ws (λ spi ws.
-    field packet_of ws (λ packet ws. ended (Unseal a k spi packet) ws))))
+    association ws (λ from ws. field packet_of ws (λ packet ws. ended (Unseal from packet) ws))
 
 -- the call that a first word names
 abbrev pub call_of : List ℕ → List (List ℕ) → Option (Line (List ℕ))
@@ -60,6 +59,6 @@ line_of line = cond (is_comment (body_of line)) (Some Skipped) (words_line (spli
 abbrev pub line_by : {X Y : Type 0} → (X → Y) → Line X → Line Y
 line_by f Skipped = Skipped
 line_by f (Tag a k text) = Tag a k (f text)
-line_by f (Seal a k spi count segment area) = Seal a k spi count (f segment) area
+line_by f (Seal to count segment area) = Seal to count (f segment) area
 line_by f Window = Window
-line_by f (Unseal a k spi packet) = Unseal a k spi (packet_by f packet)
+line_by f (Unseal from packet) = Unseal from (packet_by f packet)

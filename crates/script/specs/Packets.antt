@@ -5,7 +5,7 @@ use Rattle.std.specs.Prelude.{ℕ, cond, List, length, Some, None, codes, Option
 use Rattle.esp.specs.Packet.{sealed_length, segment_right}
 use Rattle.script.specs.Fields.{after, before, split}
 use Rattle.script.specs.Hex.{bytes_of}
-use Rattle.script.specs.Words.{algorithm_of, and_then, ended, field, ik_of, number32}
+use Rattle.script.specs.Words.{and_then, association, ended, field, number32}
 use Rattle.script.specs.declared.fields.Separator.TheVariants.{Colon}
 use Rattle.script.specs.declared.packet.Packet.{Packet}
 use Rattle.script.specs.declared.packet.Source.{Source}
@@ -24,8 +24,7 @@ segment_of w = and_then (bytes_of w) (λ bs. cond (segment_right (length bs)) (S
 -- what stands between the colons after `seal`
 abbrev pub sealed_by : List (List ℕ) → Option (Source (List ℕ))
 sealed_by ws =
-    field algorithm_of ws (λ a ws. field ik_of ws (λ k ws. field number32 ws (λ spi ws.
-    field sequence_of ws (λ q ws. field segment_of ws (λ segment ws. ended (Sealed a k spi q segment) ws)))))
+    association ws (λ to ws. field sequence_of ws (λ q ws. field segment_of ws (λ segment ws. ended (Sealed to q segment) ws)))
 
 -- a text whose first piece between colons is `seal` says what to seal; any other is bytes
 unfoldable pub source_of : List ℕ → Option (Source (List ℕ))
@@ -37,7 +36,7 @@ source_of text =
 -- how many bytes the packet has; none where its segment cannot be sealed
 abbrev pub length_of : Source (List ℕ) → ℕ
 length_of (Bytes bs) = length bs
-length_of (Sealed a k spi q segment) = unwrap_or (sealed_length (length segment)) 0
+length_of (Sealed to q segment) = unwrap_or (sealed_length (length segment)) 0
 
 -- with no mark the packet stands as it is; else the mark is followed by the place of a byte of the packet
 abbrev pub marked : Source (List ℕ) → Option (List ℕ) → Option (Packet (List ℕ))
@@ -51,7 +50,7 @@ packet_of text = and_then (source_of (before 94 text)) (λ source. marked source
 -- the same source or packet, its bytes seen through f
 abbrev pub source_by : {X Y : Type 0} → (X → Y) → Source X → Source Y
 source_by f (Bytes bs) = Bytes (f bs)
-source_by f (Sealed a k spi q segment) = Sealed a k spi q (f segment)
+source_by f (Sealed to q segment) = Sealed to q (f segment)
 
 abbrev pub packet_by : {X Y : Type 0} → (X → Y) → Packet X → Packet Y
 packet_by f p = record { source = source_by f p.source; flip = p.flip }

@@ -1,8 +1,9 @@
 // Printing an answer.
 ghost use Rattle.script.specs.Answers.{name_of, text_of};
-ghost use Rattle.std.specs.Prelude.{◌≡◌, Some};
+ghost use Rattle.std.specs.Prelude.{Some};
 
 use crate::hex::Hex;
+use esp::Fault;
 use integrity::Tag;
 use std::fmt;
 
@@ -13,38 +14,26 @@ pub enum Call {
     Unseal,
 }
 
-impl Call {
-    // The first word of the call's line.
-    pub fn name(self) -> &'static str
-        ensures { result.now ≡ name_of self }
-    {
-        match self {
+// The first word of the call's line.
+impl fmt::Display for Call {
+    ghost output = { λ c. Some (name_of c) };
+
+    fn fmt<W: fmt::Write>(&self, f: &mut fmt::Formatter<W>) -> fmt::Result {
+        f.write_str(match self {
             Call::Seal => "seal",
             Call::Unseal => "unseal",
-        }
+        })
     }
 }
 
 // What a line of a script is answered.
 #[derive(Drop)]
 pub enum Answer {
-    Tagged {
-        tag: Tag,
-    },
-    Sealed {
-        count: u32,
-        packet: Vec<u8>,
-    },
+    Tagged { tag: Tag },
+    Sealed { count: u32, packet: Vec<u8> },
     EmptyWindow,
-    Opened {
-        place: usize,
-        segment: Vec<u8>,
-    },
-    Refused {
-        call: Call,
-        number: u8,
-        place: usize,
-    },
+    Opened { place: usize, segment: Vec<u8> },
+    Refused { call: Call, fault: Fault },
     // The line with this number, counted from 1, is not of the grammar.
     BadLine(u64),
 }
@@ -71,13 +60,10 @@ impl fmt::Display for Answer {
                     Hex(segment.as_slice())
                 )
             }
-            Answer::Refused {
-                call,
-                number,
-                place,
-            } => {
-                let name = call.name();
-                write!(f, "{name} fault={number} place={place}")
+            Answer::Refused { call, fault } => {
+                let number = fault.number();
+                let place = fault.place();
+                write!(f, "{call} fault={number} place={place}")
             }
             Answer::BadLine(n) => write!(f, "bad line {n}"),
         }

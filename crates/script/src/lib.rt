@@ -1,7 +1,6 @@
 // Scripts of calls: reading a line, and printing an answer.
 #![tactic(auto)]
 
-mod algorithm;
 mod answer;
 mod decimal;
 mod fields;
@@ -13,7 +12,6 @@ mod packets;
 mod refusal;
 mod words;
 
-pub use algorithm::Algorithm;
 pub use answer::{Answer, Call};
 pub use decimal::read_number;
 pub use fields::{Fields, Separator, is_text};

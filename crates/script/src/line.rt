@@ -1,7 +1,7 @@
 // The lines of a script, their bytes held in a `B`.
-use crate::algorithm::Algorithm;
 use crate::packet::Packet;
-use integrity::Ik;
+use esp::Association;
+use integrity::{Algorithm, Ik};
 
 #[derive(Drop)]
 pub enum Line<B> {
@@ -15,9 +15,7 @@ pub enum Line<B> {
     },
     // A segment sealed under the count after `counter`, into an area of so many bytes.
     Seal {
-        algorithm: Algorithm,
-        ik: Ik,
-        spi: u32,
+        to: Association,
         counter: u32,
         segment: B,
         area: u32,
@@ -26,9 +24,7 @@ pub enum Line<B> {
     Window,
     // A packet opened under the window that is kept.
     Unseal {
-        algorithm: Algorithm,
-        ik: Ik,
-        spi: u32,
+        from: Association,
         packet: Packet<B>,
     },
 }

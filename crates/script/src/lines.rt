@@ -26,17 +26,13 @@ fn tag_line(heap: Global, fields: &mut Fields) -> Result<Line<Vec<u8>>, Refusal>
 fn seal_line(heap: Global, fields: &mut Fields) -> Result<Line<Vec<u8>>, Refusal>
     ensures { Says (line_by vec_items) result (seal_line (fields_of fields.old)) }
 {
-    let algorithm = fields.algorithm()?;
-    let ik = fields.ik(heap)?;
-    let spi = fields.number()?;
+    let to = fields.association(heap)?;
     let counter = fields.number()?;
     let segment = fields.bytes(heap)?;
     let area = fields.number()?;
     fields.end()?;
     Ok(Line::Seal {
-        algorithm,
-        ik,
-        spi,
+        to,
         counter,
         segment,
         area,
@@ -53,17 +49,10 @@ fn window_line(fields: &mut Fields) -> Result<Line<Vec<u8>>, Refusal>
 fn unseal_line(heap: Global, fields: &mut Fields) -> Result<Line<Vec<u8>>, Refusal>
     ensures { Says (line_by vec_items) result (unseal_line (fields_of fields.old)) }
 {
-    let algorithm = fields.algorithm()?;
-    let ik = fields.ik(heap)?;
-    let spi = fields.number()?;
+    let from = fields.association(heap)?;
     let packet = fields.packet(heap)?;
     fields.end()?;
-    Ok(Line::Unseal {
-        algorithm,
-        ik,
-        spi,
-        packet,
-    })
+    Ok(Line::Unseal { from, packet })
 }
 
 // The call that a first word names, with its fields.

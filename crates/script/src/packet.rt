@@ -1,6 +1,5 @@
 // A packet as a script gives it, its bytes held in a `B`.
-use crate::algorithm::Algorithm;
-use integrity::Ik;
+use esp::Association;
 
 #[derive(Drop)]
 pub enum Source<B> {
@@ -8,9 +7,7 @@ pub enum Source<B> {
     Bytes(B),
     // What sealing makes of a segment.
     Sealed {
-        algorithm: Algorithm,
-        ik: Ik,
-        spi: u32,
+        to: Association,
         number: u32,
         segment: B,
     },

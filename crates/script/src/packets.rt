@@ -74,16 +74,12 @@ impl<'a> Fields<'a> {
 fn read_sealed(heap: Global, fields: &mut Fields) -> Result<Source<Vec<u8>>, Refusal>
     ensures { Says (source_by vec_items) result (sealed_by (fields_of fields.old)) }
 {
-    let algorithm = fields.algorithm()?;
-    let ik = fields.ik(heap)?;
-    let spi = fields.number()?;
+    let to = fields.association(heap)?;
     let number = fields.sequence()?;
     let segment = fields.segment(heap)?;
     fields.end()?;
     Ok(Source::Sealed {
-        algorithm,
-        ik,
-        spi,
+        to,
         number,
         segment,
     })

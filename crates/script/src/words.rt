@@ -2,36 +2,25 @@
 ghost use Rattle.script.specs.Fields.{fields_of, others};
 ghost use Rattle.script.specs.Hex.{bytes_of};
 ghost use Rattle.script.specs.Reads.{Says};
-ghost use Rattle.script.specs.Words.{algorithm_by, algorithm_of, first_as, ik_of, no_more, number16, number32, number8};
+ghost use Rattle.script.specs.Words.{algorithm_of, association_of, first_as, ik_of, no_more, number16, number32, number8};
 ghost use Rattle.script.specs.declared.refusal.Refusal.TheVariants.{BadLine};
 ghost use Rattle.std.specs.Prelude.{◌≡◌, vec_items};
 ghost use Rattle.std.specs.Option.{ok_or};
 
-use crate::algorithm::Algorithm;
 use crate::decimal::read_number;
 use crate::fields::Fields;
 use crate::hex::read_bytes;
 use crate::refusal::Refusal;
-use integrity::Ik;
+use esp::Association;
+use integrity::{Algorithm, Ik};
 use std::alloc::Global;
-
-// The algorithm of a number.
-fn algorithm_by(number: u32) -> Option<Algorithm>
-    ensures { result ≡ algorithm_by number }
-{
-    match number {
-        1 => Some(Algorithm::HmacMd5),
-        2 => Some(Algorithm::HmacSha1),
-        _ => None,
-    }
-}
 
 // An algorithm by its number.
 pub fn read_algorithm(text: &[u8]) -> Option<Algorithm>
     ensures { result ≡ algorithm_of text.now }
 {
     match read_number(text, 255) {
-        Some(number) => algorithm_by(number),
+        Some(number) => Algorithm::try_from(number as u8).ok(),
         None => None,
     }
 }
@@ -109,6 +98,16 @@ impl<'a> Fields<'a> {
             return Err(Refusal::BadLine);
         };
         read_ik(heap, text)
+    }
+
+    // The next three fields as an association.
+    pub fn association(&mut self, heap: Global) -> Result<Association, Refusal>
+        ensures { Says (λ a. (a, fields_of self.new)) result (association_of (fields_of self.old)) }
+    {
+        let algorithm = self.algorithm()?;
+        let ik = self.ik(heap)?;
+        let spi = self.number()?;
+        Ok(Association { algorithm, ik, spi })
     }
 
     // The next field as bytes.

@@ -1,6 +1,7 @@
 use Rattle.std.proofs.Common.{◌≡◌, ℕ, List, ◌++◌, length, codes, decimal, sym, ap, ◌∙◌}
 use Rattle.script.proofs.answer.AnswerDisplay.fmt.Goals as goal
-use Rattle.script.specs.Answers.{seal_text, text_of, unseal_text}
+use Rattle.script.specs.Answers.{fault_text, seal_text, text_of, unseal_text}
+use Rattle.esp.specs.Faults.{number_of}
 use Rattle.script.specs.Hex.{hex_of}
 use Rattle.std.proofs.Output.{has_written_of_eq}
 
@@ -31,6 +32,8 @@ returns-in-Opened-clause-writes g c p e =
 
 pub returns-in-Refused-clause-writes : goal.returns-in-Refused-clause-writes
 returns-in-Refused-clause-writes g c p e =
-    let rest : List ℕ = codes " fault=" ++ (decimal c.in-Refused.number ++ (codes " place=" ++ decimal c.in-Refused.place)) in
-    has_written_of_eq g.W.Write.write_str_gives _ _ (text_of c.args.self.now) _ (ap (λ (name : List ℕ). name ++ rest) c.name-name.ensures ∙ sym (ap text_of c.in-Refused.is))
+    let call = c.in-Refused.call in
+    let number = ap (λ (n : ℕ). fault_text call n c.place-place.result) c.number-number.ensures in
+    let place = ap (fault_text call (number_of c.in-Refused.fault)) c.place-place.ensures in
+    has_written_of_eq g.W.Write.write_str_gives _ _ (text_of c.args.self.now) _ (number ∙ place ∙ sym (ap text_of c.in-Refused.is))
     (c.write-in-Refused.ensures.writes p e)
