@@ -20,3 +20,4 @@ pub use line::Line;
 pub use lines::{body, read_line};
 pub use packet::{Packet, Source};
 pub use refusal::Refusal;
+pub use words::Field;

@@ -12,7 +12,7 @@ use std::alloc::Global;
 fn tag_line(heap: Global, fields: &mut Fields) -> Result<Line<Vec<u8>>, Refusal>
     ensures { Says (line_by vec_items) result (tag_line (fields_of fields.old)) }
 {
-    let algorithm = fields.algorithm()?;
+    let algorithm = fields.read()?;
     let ik = fields.ik(heap)?;
     let text = fields.bytes(heap)?;
     fields.end()?;
@@ -27,9 +27,9 @@ fn seal_line(heap: Global, fields: &mut Fields) -> Result<Line<Vec<u8>>, Refusal
     ensures { Says (line_by vec_items) result (seal_line (fields_of fields.old)) }
 {
     let to = fields.association(heap)?;
-    let counter = fields.number()?;
+    let counter = fields.read()?;
     let segment = fields.bytes(heap)?;
-    let area = fields.number()?;
+    let area = fields.read()?;
     fields.end()?;
     Ok(Line::Seal {
         to,

@@ -14,37 +14,25 @@ use crate::packet::{Packet, Source};
 use crate::refusal::Refusal;
 use std::alloc::Global;
 
-// A sequence number that a packet may carry.
-fn read_sequence(text: &[u8]) -> Option<u32>
-    ensures { result ≡ sequence_of text.now }
-{
-    match read_number(text, u32::MAX) {
-        Some(number) if number > 0 => Some(number),
-        _ => None,
-    }
-}
-
 // A segment that can be sealed.
 fn read_segment(heap: Global, text: &[u8]) -> Result<Vec<u8>, Refusal>
     ensures { Says vec_items result (segment_of text.now) }
 {
     let bytes = read_bytes(heap, text)?;
-    match esp::sealed_len(bytes.len()) {
-        Some(_) => Ok(bytes),
-        None => Err(Refusal::BadLine),
-    }
+    esp::sealed_len(bytes.len()).ok_or(Refusal::BadLine)?;
+    Ok(bytes)
 }
 
 impl<'a> Fields<'a> {
-    // The next field as a sequence number.
+    // The next field as a sequence number that a packet may carry.
     fn sequence(&mut self) -> Result<u32, Refusal>
         ensures value { result ≡ ok_or (first_as sequence_of (fields_of self.old)) BadLine }
         ensures rest { fields_of self.new ≡ others (fields_of self.old) }
     {
-        let Some(text) = self.next() else {
-            return Err(Refusal::BadLine);
-        };
-        read_sequence(text).ok_or(Refusal::BadLine)
+        match self.read()? {
+            0 => Err(Refusal::BadLine),
+            number => Ok(number),
+        }
     }
 
     // The next field as a segment that can be sealed.
@@ -52,10 +40,7 @@ impl<'a> Fields<'a> {
         ensures value { Says vec_items result (first_as segment_of (fields_of self.old)) }
         ensures rest { fields_of self.new ≡ others (fields_of self.old) }
     {
-        let Some(text) = self.next() else {
-            return Err(Refusal::BadLine);
-        };
-        read_segment(heap, text)
+        read_segment(heap, self.expected()?)
     }
 
     // The next field as a packet.
@@ -63,10 +48,7 @@ impl<'a> Fields<'a> {
         ensures value { Says (packet_by vec_items) result (first_as packet_of (fields_of self.old)) }
         ensures rest { fields_of self.new ≡ others (fields_of self.old) }
     {
-        let Some(text) = self.next() else {
-            return Err(Refusal::BadLine);
-        };
-        read_packet(heap, text)
+        read_packet(heap, self.expected()?)
     }
 }
 

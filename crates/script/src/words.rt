@@ -1,11 +1,12 @@
 // Fields by their kinds.
-ghost use Rattle.script.specs.Fields.{fields_of, others};
+ghost use Rattle.script.specs.Fields.{fields_of, first, others};
 ghost use Rattle.script.specs.Hex.{bytes_of};
 ghost use Rattle.script.specs.Reads.{Says};
 ghost use Rattle.script.specs.Words.{algorithm_of, association_of, first_as, ik_of, no_more, number16, number32, number8};
 ghost use Rattle.script.specs.declared.refusal.Refusal.TheVariants.{BadLine};
-ghost use Rattle.std.specs.Prelude.{◌≡◌, vec_items};
+ghost use Rattle.std.specs.Prelude.{◌≡◌, ℕ, List, Option, vec_items};
 ghost use Rattle.std.specs.Option.{ok_or};
+ghost use Rattle.std.specs.Result.{result_map_both};
 
 use crate::decimal::read_number;
 use crate::fields::Fields;
@@ -15,13 +16,48 @@ use esp::Association;
 use integrity::{Algorithm, Ik};
 use std::alloc::Global;
 
+// What a field can be read as, with no memory taken.
+pub trait Field: Sized {
+    // The value that a text writes, if it writes one.
+    ghost read: { List ℕ → Option Self };
+
+    fn read(text: &[u8]) -> Option<Self>
+        ensures { result ≡ read text.now };
+}
+
+// A number of 32 bits.
+impl Field for u32 {
+    ghost read = { number32 };
+
+    fn read(text: &[u8]) -> Option<u32> {
+        read_number(text, u32::MAX)
+    }
+}
+
+// A number of 16 bits.
+impl Field for u16 {
+    ghost read = { number16 };
+
+    fn read(text: &[u8]) -> Option<u16> {
+        read_number(text, 65535).map(|number| number as u16)
+    }
+}
+
+// A number of 8 bits.
+impl Field for u8 {
+    ghost read = { number8 };
+
+    fn read(text: &[u8]) -> Option<u8> {
+        read_number(text, 255).map(|number| number as u8)
+    }
+}
+
 // An algorithm by its number.
-pub fn read_algorithm(text: &[u8]) -> Option<Algorithm>
-    ensures { result ≡ algorithm_of text.now }
-{
-    match read_number(text, 255) {
-        Some(number) => Algorithm::try_from(number as u8).ok(),
-        None => None,
+impl Field for Algorithm {
+    ghost read = { algorithm_of };
+
+    fn read(text: &[u8]) -> Option<Algorithm> {
+        Algorithm::try_from(u8::read(text)?).ok()
     }
 }
 
@@ -30,63 +66,24 @@ pub fn read_ik(heap: Global, text: &[u8]) -> Result<Ik, Refusal>
     ensures { Says (λ ik. ik) result (ik_of text.now) }
 {
     let bytes = read_bytes(heap, text)?;
-    if bytes.len() != 16 {
-        return Err(Refusal::BadLine);
-    }
-    let mut ik = [0; 16];
-    ik.copy_from_slice(bytes.as_slice());
-    Ok(ik)
+    Ik::try_from(bytes.as_slice()).map_err(|_| Refusal::BadLine)
 }
 
 impl<'a> Fields<'a> {
-    // The next field as a number of 32 bits.
-    pub fn number(&mut self) -> Result<u32, Refusal>
-        ensures value { result ≡ ok_or (first_as number32 (fields_of self.old)) BadLine }
+    // The next field, where one has to follow.
+    pub fn expected(&mut self) -> Result<&'a [u8], Refusal>
+        ensures field { result_map_both (λ y. y.now) (λ e. e) result ≡ ok_or (first (fields_of self.old)) BadLine }
         ensures rest { fields_of self.new ≡ others (fields_of self.old) }
     {
-        let Some(text) = self.next() else {
-            return Err(Refusal::BadLine);
-        };
-        read_number(text, u32::MAX).ok_or(Refusal::BadLine)
+        self.next().ok_or(Refusal::BadLine)
     }
 
-    // The next field as a number of 16 bits.
-    pub fn short(&mut self) -> Result<u16, Refusal>
-        ensures value { result ≡ ok_or (first_as number16 (fields_of self.old)) BadLine }
+    // The next field as an `F`.
+    pub fn read<F: Field>(&mut self) -> Result<F, Refusal>
+        ensures value { result ≡ ok_or (first_as F.Field.read (fields_of self.old)) BadLine }
         ensures rest { fields_of self.new ≡ others (fields_of self.old) }
     {
-        let Some(text) = self.next() else {
-            return Err(Refusal::BadLine);
-        };
-        match read_number(text, 65535) {
-            Some(number) => Ok(number as u16),
-            None => Err(Refusal::BadLine),
-        }
-    }
-
-    // The next field as a number of 8 bits.
-    pub fn byte(&mut self) -> Result<u8, Refusal>
-        ensures value { result ≡ ok_or (first_as number8 (fields_of self.old)) BadLine }
-        ensures rest { fields_of self.new ≡ others (fields_of self.old) }
-    {
-        let Some(text) = self.next() else {
-            return Err(Refusal::BadLine);
-        };
-        match read_number(text, 255) {
-            Some(number) => Ok(number as u8),
-            None => Err(Refusal::BadLine),
-        }
-    }
-
-    // The next field as an algorithm.
-    pub fn algorithm(&mut self) -> Result<Algorithm, Refusal>
-        ensures value { result ≡ ok_or (first_as algorithm_of (fields_of self.old)) BadLine }
-        ensures rest { fields_of self.new ≡ others (fields_of self.old) }
-    {
-        let Some(text) = self.next() else {
-            return Err(Refusal::BadLine);
-        };
-        read_algorithm(text).ok_or(Refusal::BadLine)
+        F::read(self.expected()?).ok_or(Refusal::BadLine)
     }
 
     // The next field as an IK.
@@ -94,19 +91,16 @@ impl<'a> Fields<'a> {
         ensures value { Says (λ ik. ik) result (first_as ik_of (fields_of self.old)) }
         ensures rest { fields_of self.new ≡ others (fields_of self.old) }
     {
-        let Some(text) = self.next() else {
-            return Err(Refusal::BadLine);
-        };
-        read_ik(heap, text)
+        read_ik(heap, self.expected()?)
     }
 
     // The next three fields as an association.
     pub fn association(&mut self, heap: Global) -> Result<Association, Refusal>
         ensures { Says (λ a. (a, fields_of self.new)) result (association_of (fields_of self.old)) }
     {
-        let algorithm = self.algorithm()?;
+        let algorithm = self.read()?;
         let ik = self.ik(heap)?;
-        let spi = self.number()?;
+        let spi = self.read()?;
         Ok(Association { algorithm, ik, spi })
     }
 
@@ -115,10 +109,7 @@ impl<'a> Fields<'a> {
         ensures value { Says vec_items result (first_as bytes_of (fields_of self.old)) }
         ensures rest { fields_of self.new ≡ others (fields_of self.old) }
     {
-        let Some(text) = self.next() else {
-            return Err(Refusal::BadLine);
-        };
-        read_bytes(heap, text)
+        read_bytes(heap, self.expected()?)
     }
 
     // That no field is left.
