@@ -10,21 +10,21 @@ use Rattle.script.specs.declared.line.Line.TheVariants.{Seal, Skipped, Tag, Unse
 use Rattle.std.specs.Str.{bytes_eq}
 
 --   tag ALG IK BYTES
-abbrev pub tag_line : List (List ℕ) → Option (Line (List ℕ))
+unfoldable pub tag_line : List (List ℕ) → Option (Line (List ℕ))
 tag_line ws = field algorithm_of ws (λ a ws. field ik_of ws (λ k ws. field bytes_of ws (λ text ws. ended (Tag a k text) ws)))
 
 --   seal ALG IK SPI COUNT SEGMENT AREA
-abbrev pub seal_line : List (List ℕ) → Option (Line (List ℕ))
+unfoldable pub seal_line : List (List ℕ) → Option (Line (List ℕ))
 seal_line ws =
     association ws (λ to ws. field number32 ws (λ count ws. field bytes_of ws (λ segment ws. field number32 ws (λ area ws.
     ended (Seal to count segment area) ws))))
 
 --   window
-abbrev pub window_line : List (List ℕ) → Option (Line (List ℕ))
+unfoldable pub window_line : List (List ℕ) → Option (Line (List ℕ))
 window_line ws = ended Window ws
 
 --   unseal ALG IK SPI PACKET
-abbrev pub unseal_line : List (List ℕ) → Option (Line (List ℕ))
+unfoldable pub unseal_line : List (List ℕ) → Option (Line (List ℕ))
 unseal_line ws =
     association ws (λ from ws. field packet_of ws (λ packet ws. ended (Unseal from packet) ws))
 

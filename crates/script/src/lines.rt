@@ -9,6 +9,7 @@ use crate::line::Line;
 use crate::refusal::Refusal;
 use std::alloc::Global;
 
+#[tactic(auto, unfolding(crate::specs::Lines::tag_line))]
 fn tag_line(heap: Global, fields: &mut Fields) -> Result<Line<Vec<u8>>, Refusal>
     ensures { Says (line_by vec_items) result (tag_line (fields_of fields.old)) }
 {
@@ -23,6 +24,7 @@ fn tag_line(heap: Global, fields: &mut Fields) -> Result<Line<Vec<u8>>, Refusal>
     })
 }
 
+#[tactic(auto, unfolding(crate::specs::Lines::seal_line))]
 fn seal_line(heap: Global, fields: &mut Fields) -> Result<Line<Vec<u8>>, Refusal>
     ensures { Says (line_by vec_items) result (seal_line (fields_of fields.old)) }
 {
@@ -39,6 +41,7 @@ fn seal_line(heap: Global, fields: &mut Fields) -> Result<Line<Vec<u8>>, Refusal
     })
 }
 
+#[tactic(auto, unfolding(crate::specs::Lines::window_line))]
 fn window_line(fields: &mut Fields) -> Result<Line<Vec<u8>>, Refusal>
     ensures { Says (line_by vec_items) result (window_line (fields_of fields.old)) }
 {
@@ -46,6 +49,7 @@ fn window_line(fields: &mut Fields) -> Result<Line<Vec<u8>>, Refusal>
     Ok(Line::Window)
 }
 
+#[tactic(auto, unfolding(crate::specs::Lines::unseal_line))]
 fn unseal_line(heap: Global, fields: &mut Fields) -> Result<Line<Vec<u8>>, Refusal>
     ensures { Says (line_by vec_items) result (unseal_line (fields_of fields.old)) }
 {
@@ -59,16 +63,12 @@ fn unseal_line(heap: Global, fields: &mut Fields) -> Result<Line<Vec<u8>>, Refus
 fn call(heap: Global, name: &[u8], fields: &mut Fields) -> Result<Line<Vec<u8>>, Refusal>
     ensures { Says (line_by vec_items) result (call_of name.now (fields_of fields.old)) }
 {
-    if is_text(name, b"tag") {
-        tag_line(heap, fields)
-    } else if is_text(name, b"seal") {
-        seal_line(heap, fields)
-    } else if is_text(name, b"window") {
-        window_line(fields)
-    } else if is_text(name, b"unseal") {
-        unseal_line(heap, fields)
-    } else {
-        Err(Refusal::BadLine)
+    match name {
+        b"tag" => tag_line(heap, fields),
+        b"seal" => seal_line(heap, fields),
+        b"window" => window_line(fields),
+        b"unseal" => unseal_line(heap, fields),
+        _ => Err(Refusal::BadLine),
     }
 }
 
