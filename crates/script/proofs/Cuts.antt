@@ -1,8 +1,11 @@
 -- How a text falls into pieces.
-use Rattle.std.proofs.Common.{◌≡◌, ℕ, suc, ◌+◌, ◌<◌, true, false, cond, eqb, List, [], ◌∷◌, ◌++◌, length, get_or, take, drop, Some, None, Option, sym, refl, ap, ◌∙◌, arith, Bor, eq-eqb, ne_eqb}
+use Rattle.std.proofs.Common.{◌≡◌, ℕ, suc, ◌+◌, ◌-◌, ◌<◌, ◌≤◌, Bool, true, false, cond, not, eqb, ltb, lt-ltb, List, [], ◌∷◌, length, take, drop, Some, None, Option, sym, refl, ap, ◌∙◌, arith, Bor}
 use Rattle.script.specs.Fields.{after, before, kept, left, mark_of, onto, pieces, takes}
-use Rattle.std.proofs.lemmas.List.{append_assoc, append-nil, at_drop_more, take_more}
+use Rattle.std.proofs.lemmas.Bool.Decides.{nat_tests}
+use Rattle.std.proofs.lemmas.List.{length-drop, take_all}
 use Rattle.script.specs.declared.fields.Separator.{Separator}
+use Rattle.std.specs.List.{position, position_or_len}
+use borrow.Author.Tests.{ltb-false}
 use Rattle.std.specs.Option.{option_map}
 
 -- the pieces of what is left, if the text did not end
@@ -25,38 +28,60 @@ pieces_cut c (x ∷ xs) =
     elim (eqb x c) as (λ v. cond v ([] ∷ pieces c xs) (onto x (pieces c xs)) ≡ cond v [] (x ∷ before c xs) ∷ pieces_left c (cond v (Some xs) (after c xs)))
     [ true ↦ refl | false ↦ ap (onto x) (pieces_cut c xs) ]
 
--- where the byte at i is not c, the first piece goes on
-pub before_more : (c : ℕ) (xs : List ℕ) (i : ℕ) → i < length xs → (get_or xs i 0 ≡ c → ⊥)
-    → take i xs ++ before c (drop i xs) ≡ take (i + 1) xs ++ before c (drop (i + 1) xs)
-before_more c xs i l ne =
-    let e : before c (drop i xs) ≡ cond (eqb (get_or xs i 0) c) [] (get_or xs i 0 ∷ before c (drop (i + 1) xs)) =
-    at_drop_more (before c) xs i 0 l in
-    let n = ne_eqb (get_or xs i 0) c ne in
-    let t = take_more xs i 0 l in
-    rw (e, n, t) (sym (append_assoc (take i xs) (get_or xs i 0 ∷ []) (before c (drop (i + 1) xs))))
+-- the first piece, and what follows it, by the place of the first c
+before_is : (c : ℕ) (xs : List ℕ) → before c xs ≡ take (position_or_len (λ b. eqb b c) xs) xs
+before_is c [] = refl
+before_is c (x ∷ xs) =
+    let n = position_or_len (λ b. eqb b c) xs in
+    let e : 1 + n ≡ suc n = omega arith in
+    elim (eqb x c) as (λ v. cond v [] (x ∷ before c xs) ≡ take (cond (not v) (1 + n) 0) (x ∷ xs))
+    [ true ↦ refl | false ↦ rw e (ap (λ ys. x ∷ ys) (before_is c xs)) ]
 
-pub after_more : (c : ℕ) (xs : List ℕ) (i : ℕ) → i < length xs → (get_or xs i 0 ≡ c → ⊥)
-    → after c (drop i xs) ≡ after c (drop (i + 1) xs)
-after_more c xs i l ne =
-    let e : after c (drop i xs) ≡ cond (eqb (get_or xs i 0) c) (Some (drop (i + 1) xs)) (after c (drop (i + 1) xs)) =
-    at_drop_more (after c) xs i 0 l in
-    let n = ne_eqb (get_or xs i 0) c ne in
-    rw (e, n)
+after_is : (c : ℕ) (xs : List ℕ) → after c xs
+    ≡ cond (ltb (position_or_len (λ b. eqb b c) xs) (length xs)) (Some (drop (position_or_len (λ b. eqb b c) xs + 1) xs)) None
+after_is c [] = refl
+after_is c (x ∷ xs) =
+    let n = position_or_len (λ b. eqb b c) xs in
+    let e : 1 + n + 1 ≡ suc (n + 1) = omega arith in
+    let z : ltb 0 (suc (length xs)) ≡ true = lt-ltb 0 (suc (length xs)) (omega arith) in
+    let f : ltb (1 + n) (suc (length xs)) ≡ ltb n (length xs) = grind (arith, nat_tests) in
+    elim (eqb x c) as (λ v. cond v (Some xs) (after c xs) ≡ cond (ltb (cond (not v) (1 + n) 0) (suc (length xs))) (Some (drop (cond (not v) (1 + n) 0 + 1) (x ∷ xs))) None)
+    [ true ↦ sym (ap (λ v. cond v (Some xs) None) z) | false ↦ after_is c xs ∙ sym (ap (λ v. cond v (Some (drop (1 + n + 1) (x ∷ xs))) None) f ∙ rw e refl) ]
 
--- where the byte at i is c, the first piece ends before it
-pub before_here : (c : ℕ) (xs : List ℕ) (i : ℕ) → i < length xs → get_or xs i 0 ≡ c → take i xs ++ before c (drop i xs) ≡ take i xs
-before_here c xs i l is =
-    let e : before c (drop i xs) ≡ cond (eqb (get_or xs i 0) c) [] (get_or xs i 0 ∷ before c (drop (i + 1) xs)) =
-    at_drop_more (before c) xs i 0 l in
-    let n = eq-eqb (get_or xs i 0) c is in
-    rw (e, n) (append-nil (take i xs))
+here : (t : Bool) (n i : ℕ) → Some i ≡ cond t (Some n) None → (t ≡ true) × (i ≡ n)
+here true n i e = (refl, cc)
+here false n i e = let z : ◌≡◌ {A = ℕ} 0 1 = cc in absurd (omega arith)
 
-pub after_here : (c : ℕ) (xs : List ℕ) (i : ℕ) → i < length xs → get_or xs i 0 ≡ c → after c (drop i xs) ≡ Some (drop (i + 1) xs)
-after_here c xs i l is =
-    let e : after c (drop i xs) ≡ cond (eqb (get_or xs i 0) c) (Some (drop (i + 1) xs)) (after c (drop (i + 1) xs)) =
-    at_drop_more (after c) xs i 0 l in
-    let n = eq-eqb (get_or xs i 0) c is in
-    rw (e, n)
+nowhere : (t : Bool) (n : ℕ) → None ≡ cond t (Some n) None → t ≡ false
+nowhere true n e = let z : ◌≡◌ {A = ℕ} 0 1 = cc in absurd (omega arith)
+nowhere false n e = refl
+
+pub before_at : (c i : ℕ) (xs : List ℕ) → Some i ≡ position (λ b. eqb b c) xs → take i xs ≡ before c xs
+before_at c i xs e =
+    let h = here (ltb (position_or_len (λ b. eqb b c) xs) (length xs)) (position_or_len (λ b. eqb b c) xs) i e in
+    rw h.1 (sym (before_is c xs))
+
+pub after_at : (c i : ℕ) (xs : List ℕ) → Some i ≡ position (λ b. eqb b c) xs
+    → Some (take (length xs - (i + 1)) (drop (i + 1) xs)) ≡ after c xs
+after_at c i xs e =
+    let n = position_or_len (λ b. eqb b c) xs in
+    let h = here (ltb n (length xs)) n i e in
+    let t : ltb n (length xs) ≡ true = h.0 in
+    let k : length (drop (n + 1) xs) ≤ length xs - (n + 1) = simp length-drop (omega arith) in
+    rw h.1 (sym (after_is c xs ∙ ap (λ v. cond v (Some (drop (n + 1) xs)) None) t ∙ ap Some (sym (take_all (length xs - (n + 1)) (drop (n + 1) xs) k))))
+
+pub before_all : (c : ℕ) (xs : List ℕ) → None ≡ position (λ b. eqb b c) xs → xs ≡ before c xs
+before_all c xs e =
+    let n = position_or_len (λ b. eqb b c) xs in
+    let t : ltb n (length xs) ≡ false = nowhere (ltb n (length xs)) n e in
+    let k : length xs ≤ n = omega (arith, ltb-false) in
+    sym (before_is c xs ∙ take_all n xs k)
+
+pub after_none : (c : ℕ) (xs : List ℕ) → None ≡ position (λ b. eqb b c) xs → None ≡ after c xs
+after_none c xs e =
+    let n = position_or_len (λ b. eqb b c) xs in
+    let t : ltb n (length xs) ≡ false = nowhere (ltb n (length xs)) n e in
+    sym (after_is c xs ∙ ap (λ v. cond v (Some (drop (n + 1) xs)) None) t)
 
 -- how many bytes are left, and one where the text did not end
 abbrev pub room : Option (Bor (List ℕ)) → ℕ

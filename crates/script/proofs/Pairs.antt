@@ -1,15 +1,13 @@
 -- Bytes read from pairs of digits, and printed as such.
-use Rattle.std.proofs.Common.{◌≡◌, ℕ, ◌+◌, ◌-◌, ◌*◌, ◌/◌, ◌%◌, ◌<◌, ◌≤◌, Bool, true, false, ◌&&◌, eqb, ltb, List, [], ◌∷◌, ◌++◌, length, get_or, take, drop, Some, None, Option, Result, sym, refl, ap, ◌∙◌, subst, ⊎_elim, arith, rules, le-ltb, lt-ltb, le-leb}
+use Rattle.std.proofs.Common.{◌≡◌, ℕ, ◌+◌, ◌-◌, ◌*◌, ◌/◌, ◌%◌, ◌<◌, ◌≤◌, Bool, true, false, ◌&&◌, eqb, zero, suc, List, [], ◌∷◌, ◌++◌, length, get_or, take, drop, Some, None, Option, Result, sym, refl, ap, ◌∙◌, subst, ⊎_elim, arith, rules, le-ltb, lt-ltb, le-leb}
 use Rattle.script.specs.Hex.{byte_of, bytes_of, digit_of, glyph, hex_of, joined, paired, spelled}
-use Rattle.std.proofs.lemmas.Str.Ascii.{encode_ascii}
 use Rattle.std.proofs.lemmas.Bool.{cases_lt}
-use Rattle.std.proofs.lemmas.List.{append_assoc, at_drop_more, length-drop, take_more}
+use Rattle.std.proofs.lemmas.List.{append_assoc, take_more}
 use Rattle.script.specs.Reads.{Says}
 use Rattle.script.specs.declared.refusal.Refusal.{Refusal}
 use Rattle.std.specs.Int.Digits.{AllBelowBase}
-use Rattle.std.specs.Str.{bytes_eq}
+use Rattle.std.specs.Simd.{first_chunks}
 use borrow.Author.Tests.{lt-leb}
-use lib.Utf8.{encode}
 
 -- bytes in front of more bytes, where those could be read
 abbrev pub prefixed : List ℕ → Option (List ℕ) → Option (List ℕ)
@@ -20,50 +18,32 @@ prefixed_joined : (xs : List ℕ) (b : ℕ) (o : Option (List ℕ)) → prefixed
 prefixed_joined xs b None = refl
 prefixed_joined xs b (Some ys) = ap Some (sym (append_assoc xs (b ∷ []) ys))
 
-two : (text : List ℕ) (i : ℕ) → 2 * i + 1 < length text → drop (2 * i) text ≡ get_or text (2 * i) 0 ∷ (get_or text (2 * i + 1) 0 ∷ drop (2 * (i + 1)) text)
-two text i h =
-    let l : 2 * i < length text = omega arith in
-    let e : 2 * (i + 1) ≡ 2 * i + 1 + 1 = omega arith in
-    at_drop_more (λ (xs : List ℕ). xs) text (2 * i) 0 l
-    ∙ ap (λ (xs : List ℕ). get_or text (2 * i) 0 ∷ xs) (at_drop_more (λ (xs : List ℕ). xs) text (2 * i + 1) 0 h)
-    ∙ ap (λ (k : ℕ). get_or text (2 * i) 0 ∷ (get_or text (2 * i + 1) 0 ∷ drop k text)) (sym e)
+-- pairs of digits read one after another, and what is left behind them
+abbrev pub paired_on : List (List ℕ) → List ℕ → Option (List ℕ)
+paired_on [] odd = paired odd
+paired_on (p ∷ ps) odd = joined (byte_of (digit_of (get_or p 0 0)) (digit_of (get_or p 1 0))) (paired_on ps odd)
 
--- one pair more
-pub paired_more : (text : List ℕ) (i : ℕ) (o : Option ℕ) → 2 * i + 1 < length text
-    → o ≡ byte_of (digit_of (get_or text (2 * i) 0)) (digit_of (get_or text (2 * i + 1) 0))
-    → paired (drop (2 * i) text) ≡ joined o (paired (drop (2 * (i + 1)) text))
+-- a text read by its pairs
+pub paired_chunks : (k : ℕ) (text : List ℕ) → k * 2 ≤ length text → paired text ≡ paired_on (first_chunks 2 k text) (drop (k * 2) text)
 unfolding paired
-paired_more text i o h e =
-    ap paired (two text i h) ∙ ap (λ p. joined p (paired (drop (2 * (i + 1)) text))) (sym e)
+paired_chunks zero text h = refl
+paired_chunks (suc k) [] h = absurd (omega arith)
+paired_chunks (suc k) (x ∷ []) h = absurd (omega arith)
+paired_chunks (suc k) (x ∷ (y ∷ text)) h =
+    let e : suc k * 2 ≡ suc (suc (k * 2)) = omega arith in
+    rw e (ap (joined (byte_of (digit_of x) (digit_of y))) (paired_chunks k text (omega arith)))
 
-pub prefixed_more : (text : List ℕ) (i : ℕ) (xs : List ℕ) (b : ℕ) → 2 * i + 1 < length text
-    → Some b ≡ byte_of (digit_of (get_or text (2 * i) 0)) (digit_of (get_or text (2 * i + 1) 0))
-    → prefixed xs (paired (drop (2 * i) text)) ≡ prefixed (xs ++ b ∷ []) (paired (drop (2 * (i + 1)) text))
-prefixed_more text i xs b h e =
-    ap (prefixed xs) (paired_more text i (Some b) h e) ∙ prefixed_joined xs b (paired (drop (2 * (i + 1)) text))
-
-pub prefixed_none : (text : List ℕ) (i : ℕ) (xs : List ℕ) → 2 * i + 1 < length text
-    → None ≡ byte_of (digit_of (get_or text (2 * i) 0)) (digit_of (get_or text (2 * i + 1) 0))
-    → prefixed xs (paired (drop (2 * i) text)) ≡ None
-prefixed_none text i xs h e = ap (prefixed xs) (paired_more text i None h e)
-
--- after the last pair nothing is left, or one digit
-short : (xs rest : List ℕ) → length rest ≡ 0 → prefixed xs (paired rest) ≡ Some xs
+-- behind the last pair stands nothing, or one digit
+pub prefixed_even : (xs odd : List ℕ) → length odd ≡ 0 → prefixed xs (paired odd) ≡ Some xs
 unfolding paired
-short xs [] e = ap Some (search rules)
-short xs (x ∷ rest) e = absurd (omega arith)
+prefixed_even xs [] e = ap Some (search rules)
+prefixed_even xs (x ∷ odd) e = absurd (omega arith)
 
-odd : (xs rest : List ℕ) → length rest ≡ 1 → prefixed xs (paired rest) ≡ None
+pub prefixed_odd : (xs odd : List ℕ) → length odd ≡ 1 → prefixed xs (paired odd) ≡ None
 unfolding paired
-odd xs [] e = absurd (omega arith)
-odd xs (x ∷ []) e = refl
-odd xs (x ∷ (y ∷ rest)) e = absurd (omega arith)
-
-pub paired_even : (text xs : List ℕ) (i : ℕ) → length text / 2 ≤ i → i ≤ length text / 2 → length text % 2 ≡ 0 → prefixed xs (paired (drop (2 * i) text)) ≡ Some xs
-paired_even text xs i h k e = short xs (drop (2 * i) text) (simp length-drop (omega arith))
-
-pub paired_odd : (text xs : List ℕ) (i : ℕ) → length text / 2 ≤ i → i ≤ length text / 2 → (length text % 2 ≡ 0 → ⊥) → prefixed xs (paired (drop (2 * i) text)) ≡ None
-paired_odd text xs i h k e = odd xs (drop (2 * i) text) (simp length-drop (omega arith))
+prefixed_odd xs [] e = absurd (omega arith)
+prefixed_odd xs (x ∷ []) e = refl
+prefixed_odd xs (x ∷ (y ∷ odd)) e = absurd (omega arith)
 
 -- a digit that was printed reads back
 glyph_low : (d : ℕ) → d < 10 → digit_of (glyph d) ≡ Some d
@@ -111,19 +91,6 @@ hex_back (b ∷ bs) h =
     let l = lt-ltb 0 (length (spelled (b ∷ bs))) (omega arith) in
     rw (n, l) (spelled_back (b ∷ bs) h)
 
--- which way `bytes_of` goes
-pub bytes_dash : (text : List ℕ) → bytes_eq text (45 ∷ []) ≡ true → bytes_of text ≡ Some []
-unfolding bytes_of
-bytes_dash text e = rw e
-
-pub bytes_none : (text : List ℕ) → bytes_eq text (45 ∷ []) ≡ false → length text ≡ 0 → bytes_of text ≡ None
-unfolding bytes_of
-bytes_none text e n = let l : ltb 0 (length text) ≡ false = le-ltb 0 (length text) (omega arith) in rw (e, l)
-
-pub bytes_pairs : (text : List ℕ) → bytes_eq text (45 ∷ []) ≡ false → 0 < length text → bytes_of text ≡ paired text
-unfolding bytes_of
-bytes_pairs text e h = let l = lt-ltb 0 (length text) h in rw (e, l)
-
 -- a reading of what was printed
 pub says_back : {X : Type 0} (f : X → List ℕ) (r : Result X Refusal) (text : List ℕ) → Says f r (bytes_of text)
     → (bs : List ℕ) → AllBelowBase 256 bs → text ≡ hex_of bs → Says f r (Some bs)
@@ -138,9 +105,6 @@ spelled_more bs i h = ap spelled (take_more bs i 0 h) ∙ onto_end (take i bs) (
     onto_end [] b = refl
     onto_end (x ∷ xs) b = ap (λ ys. glyph (x / 16) ∷ (glyph (x % 16) ∷ ys)) (onto_end xs b)
 
-pub glyph_ascii : (d : ℕ) → d < 16 → glyph d < 128
-glyph_ascii d h = search rules
-
 pub hex_none : (bs : List ℕ) → length bs ≡ 0 → 45 ∷ [] ≡ hex_of bs
 unfolding hex_of
 hex_none [] e = refl
@@ -150,18 +114,3 @@ pub hex_some : (bs : List ℕ) → (length bs ≡ 0 → ⊥) → spelled bs ≡ 
 unfolding hex_of
 hex_some [] ne = absurd (ne refl)
 hex_some (b ∷ bs) ne = refl
-
--- two characters written after the digits so far
-pub spelled_next : (bs : List ℕ) (i p q : ℕ) → i < length bs → get_or bs i 0 < 256
-    → p ≡ glyph (get_or bs i 0 / 16) → q ≡ glyph (get_or bs i 0 % 16)
-    → (spelled (take i bs) ++ encode p) ++ encode q ≡ spelled (take (i + 1) bs)
-spelled_next bs i p q h f e₁ e₂ =
-    let b = get_or bs i 0 in
-    let g₁ : glyph (get_or bs i 0 / 16) < 128 = glyph_ascii (b / 16) (omega arith) in
-    let g₂ : glyph (get_or bs i 0 % 16) < 128 = glyph_ascii (b % 16) (omega arith) in
-    append_assoc (spelled (take i bs)) (encode p) (encode q)
-    ∙ ap (λ x. spelled (take i bs) ++ (encode x ++ encode q)) e₁
-    ∙ ap (λ x. spelled (take i bs) ++ (encode (glyph (b / 16)) ++ encode x)) e₂
-    ∙ ap (λ xs. spelled (take i bs) ++ (xs ++ encode (glyph (b % 16)))) (encode_ascii (glyph (b / 16)) g₁)
-    ∙ ap (λ xs. spelled (take i bs) ++ (glyph (b / 16) ∷ xs)) (encode_ascii (glyph (b % 16)) g₂)
-    ∙ sym (spelled_more bs i h)

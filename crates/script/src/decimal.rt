@@ -28,13 +28,10 @@ fn read_digits(text: &[u8], most: u32) -> Option<u32>
 
 // A number with one more digit behind it, if the byte is a digit and the number at most `most`.
 fn with_digit(number: u32, byte: u8, most: u32) -> Option<u32>
-    requires { number ≤ most }
     ensures { result ≡ longer most number byte }
 {
-    if !byte.is_ascii_digit() {
-        return None;
-    }
-    let longer = u64::from(number) * 10 + u64::from(byte - b'0');
+    let digit = char::from(byte).to_digit(10)?;
+    let longer = u64::from(number) * 10 + u64::from(digit);
     if longer > u64::from(most) {
         None
     } else {

@@ -1,6 +1,7 @@
 // The fields of a line, one after another.
-ghost use Rattle.std.specs.Prelude.{◌≡◌, ◌<◌};
+ghost use Rattle.std.specs.Prelude.{◌≡◌, ◌<◌, ◌==◌};
 ghost use Rattle.script.specs.Fields.{after, before, fields_of, first, mark_of, others, split, takes};
+ghost use Rattle.std.specs.List.{position};
 ghost use Rattle.std.specs.Option.{option_map};
 ghost use Rattle.std.specs.Str.{bytes_eq};
 
@@ -50,17 +51,23 @@ pub fn is_text(field: &[u8], text: &[u8]) -> bool
     field == text
 }
 
+// Where the first `mark` stands.
+fn place(text: &[u8], mark: u8) -> Option<usize>
+    ensures { result ≡ position (λ b. b == mark) text.now }
+{
+    text.iter().position(|b| *b == mark)
+}
+
 // The bytes before the first `mark` or all of them, and what follows the mark if there is one.
+#[tactic(auto, using(crate::proofs::Cuts::before_at, crate::proofs::Cuts::after_at, crate::proofs::Cuts::before_all, crate::proofs::Cuts::after_none))]
 pub fn cut(text: &[u8], mark: u8) -> (&[u8], Option<&[u8]>)
     ensures front { result.0.now ≡ before mark text.now }
     ensures back { option_map (λ y. y.now) result.1 ≡ after mark text.now }
 {
-    for (i, b) in text.iter().enumerate() {
-        if *b == mark {
-            return (&text[0..i], Some(text.split_at(i + 1).1));
-        }
+    match place(text, mark) {
+        Some(i) => (&text[..i], Some(&text[i + 1..])),
+        None => (text, None),
     }
-    (text, None)
 }
 
 impl<'a> Fields<'a> {

@@ -4,7 +4,7 @@ ghost use Rattle.script.specs.Lines.{body_of, call_of, is_comment, line_by, line
 ghost use Rattle.script.specs.Reads.{Says};
 ghost use Rattle.std.specs.Prelude.{◌≡◌, vec_items};
 
-use crate::fields::{Fields, Separator, is_text};
+use crate::fields::{Fields, Separator};
 use crate::line::Line;
 use crate::refusal::Refusal;
 use std::alloc::Global;
@@ -76,23 +76,21 @@ fn call(heap: Global, name: &[u8], fields: &mut Fields) -> Result<Line<Vec<u8>>,
 pub fn body(line: &[u8]) -> &[u8]
     ensures { result.now ≡ body_of line.now }
 {
-    let n = line.len();
-    let (whole, last_two) = line.split_at(n.saturating_sub(2));
-    if is_text(last_two, b"\r\n") {
+    if let Some(whole) = line.strip_suffix(b"\r\n") {
         return whole;
     }
-    let (whole, last) = line.split_at(n.saturating_sub(1));
-    if is_text(last, b"\n") { whole } else { line }
+    line.strip_suffix(b"\n").unwrap_or(line)
 }
 
 // Whether a line begins with `#`.
 fn is_comment(text: &[u8]) -> bool
     ensures { result ≡ is_comment text.now }
 {
-    !text.is_empty() && text[0] == b'#'
+    text.starts_with(b"#")
 }
 
 // What a line of a script says.
+#[tactic(auto, unfolding(crate::specs::Lines::line_of))]
 pub fn read_line(heap: Global, line: &[u8]) -> Result<Line<Vec<u8>>, Refusal>
     ensures { Says (line_by vec_items) result (line_of line.now) }
 {

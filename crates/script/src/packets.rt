@@ -8,7 +8,7 @@ ghost use Rattle.std.specs.Prelude.{◌≡◌, vec_items};
 ghost use Rattle.std.specs.Option.{ok_or};
 
 use crate::decimal::read_number;
-use crate::fields::{Fields, Separator, cut, is_text};
+use crate::fields::{Fields, Separator, cut};
 use crate::hex::read_bytes;
 use crate::packet::{Packet, Source};
 use crate::refusal::Refusal;
@@ -68,16 +68,14 @@ fn read_sealed(heap: Global, fields: &mut Fields) -> Result<Source<Vec<u8>>, Ref
 }
 
 // A packet's bytes, or what is to be sealed.
+#[tactic(auto, unfolding(crate::specs::Packets::source_of))]
 fn read_source(heap: Global, text: &[u8]) -> Result<Source<Vec<u8>>, Refusal>
     ensures { Says (source_by vec_items) result (source_of text.now) }
 {
-    let (kind, rest) = cut(text, b':');
-    if !is_text(kind, b"seal") {
-        return Ok(Source::Bytes(read_bytes(heap, text)?));
-    }
-    match rest {
-        Some(rest) => read_sealed(heap, &mut Fields::new(rest, Separator::Colon)),
-        None => Err(Refusal::BadLine),
+    match cut(text, b':') {
+        (b"seal", Some(rest)) => read_sealed(heap, &mut Fields::new(rest, Separator::Colon)),
+        (b"seal", None) => Err(Refusal::BadLine),
+        _ => Ok(Source::Bytes(read_bytes(heap, text)?)),
     }
 }
 
@@ -92,6 +90,7 @@ fn source_len(source: &Source<Vec<u8>>) -> usize
 }
 
 // A packet, with a bit flipped or not.
+#[tactic(auto, unfolding(crate::specs::Packets::packet_of))]
 fn read_packet(heap: Global, text: &[u8]) -> Result<Packet<Vec<u8>>, Refusal>
     ensures { Says (packet_by vec_items) result (packet_of text.now) }
 {
