@@ -79,12 +79,3 @@ pub read_more : (most n i : ℕ) (text : List ℕ) (o : Option ℕ) → i < leng
     → read_on most (Some n) (drop i text) ≡ read_on most o (drop (i + 1) text)
 read_more most n i text o l e =
     at_drop_more (read_on most (Some n)) text i 0 l ∙ ap (λ p. read_on most p (drop (i + 1) text)) (sym e)
-
--- a number with one more digit is within the field
-pub longer_within : (most n c m : ℕ) → Some m ≡ longer most n c → m ≤ most
-longer_within most n c m = split (is_ascii_digit c) (leb (n * 10 + (c - 48)) most) refl
-  where
-    split : (d e : Bool) → leb (n * 10 + (c - 48)) most ≡ e → Some m ≡ cond (d && e) (Some (n * 10 + (c - 48))) None → m ≤ most
-    split false e is h = let z : ◌≡◌ {A = ℕ} 0 1 = cc in absurd (omega arith)
-    split true false is h = let z : ◌≡◌ {A = ℕ} 0 1 = cc in absurd (omega arith)
-    split true true is h = let q : m ≡ n * 10 + (c - 48) = cc in omega (arith, leb-true (n * 10 + (c - 48)) most is)

@@ -46,19 +46,13 @@ impl fmt::Display for Answer {
             Answer::Tagged { tag } => write!(f, "tag {}", Hex(tag)),
             Answer::Sealed { count, packet } => {
                 let bytes = packet.len();
-                write!(
-                    f,
-                    "seal bytes={bytes} count={count} out={}",
-                    Hex(packet.as_slice())
-                )
+                let out = Hex(packet.as_slice());
+                write!(f, "seal bytes={bytes} count={count} out={out}")
             }
             Answer::EmptyWindow => write!(f, "window empty"),
             Answer::Opened { place, segment } => {
-                write!(
-                    f,
-                    "unseal place={place} segment={}",
-                    Hex(segment.as_slice())
-                )
+                let segment = Hex(segment.as_slice());
+                write!(f, "unseal place={place} segment={segment}")
             }
             Answer::Refused { call, fault } => {
                 let number = fault.number();

@@ -3,6 +3,7 @@ ghost use Rattle.std.specs.Prelude.{◌≡◌, ℕ, ◌<◌, ◌≤◌, length, 
 ghost use Rattle.script.specs.Decimal.{longer, number_of};
 
 // The number that a text writes, if it is one and at most `most`. What `{}` prints of a number reads back as it.
+#[tactic(auto, using(crate::proofs::Digits::number_back, crate::proofs::Digits::number_within, crate::proofs::Digits::number_none, std::proofs::lemmas::Fmt::decimal_nonempty))]
 pub fn read_number(text: &[u8], most: u32) -> Option<u32>
     ensures value { result ≡ number_of most text.now }
     ensures within { IfSome result (λ n. n ≤ most) }
