@@ -2,7 +2,7 @@
 use Rattle.std.proofs.Common.{◌≡◌, ℕ, ◌+◌, ◌-◌, ◌*◌, ◌^◌, ◌<◌, ◌≤◌, Bool, true, false, cond, ◌&&◌, ltb, leb, List, [], ◌∷◌, length, get_or, drop, IfSome, Some, None, decimal, Option, sym, refl, ap, ◌∙◌, arith, rules, le-ltb, lt-ltb, le-leb, leb-false, leb-true}
 use Rattle.script.specs.Decimal.{longer, number_of, value_after}
 use Rattle.std.proofs.lemmas.Fmt.{decimal_nonempty, digits_decimal, digits_value-decimal}
-use Rattle.std.proofs.lemmas.List.{at_drop_more}
+use Rattle.std.proofs.lemmas.List.{at_drop_all, at_drop_more}
 use Rattle.std.proofs.lemmas.Str.Parse.{IsNumeralModel, numerals_by_fold}
 use Rattle.std.specs.Char.{is_ascii_digit}
 use Rattle.std.specs.Str.{all_ascii_digits}
@@ -79,3 +79,6 @@ pub read_more : (most n i : ℕ) (text : List ℕ) (o : Option ℕ) → i < leng
     → read_on most (Some n) (drop i text) ≡ read_on most o (drop (i + 1) text)
 read_more most n i text o l e =
     at_drop_more (read_on most (Some n)) text i 0 l ∙ ap (λ p. read_on most p (drop (i + 1) text)) (sym e)
+
+pub read_end : (most n i : ℕ) (text : List ℕ) → length text ≤ i → read_on most (Some n) (drop i text) ≡ Some n
+read_end most n i text h = at_drop_all (read_on most (Some n)) text i h

@@ -17,6 +17,7 @@ pub fn read_number(text: &[u8], most: u32) -> Option<u32>
 }
 
 // The number that the digits of a text write, at most `most`.
+#[tactic(auto, using(crate::proofs::Digits::number_read, crate::proofs::Digits::read_more, crate::proofs::Digits::read_end))]
 fn read_digits(text: &[u8], most: u32) -> Option<u32>
     ensures { 0 < length text.now → result ≡ number_of most text.now }
 {

@@ -3,7 +3,6 @@ ghost use Rattle.std.specs.Prelude.{◌≡◌, ◌<◌, ◌==◌};
 ghost use Rattle.script.specs.Fields.{after, before, fields_of, first, mark_of, others, split, takes};
 ghost use Rattle.std.specs.List.{position};
 ghost use Rattle.std.specs.Option.{option_map};
-ghost use Rattle.std.specs.Str.{bytes_eq};
 
 // What stands between fields.
 #[derive(Clone, Copy)]
@@ -42,13 +41,6 @@ pub struct Fields<'a> {
     // What is left, if the text did not end.
     rest: Option<&'a [u8]>,
     separator: Separator,
-}
-
-// Whether a field is a given text.
-pub fn is_text(field: &[u8], text: &[u8]) -> bool
-    ensures { result ≡ bytes_eq field.now text.now }
-{
-    field == text
 }
 
 // Where the first `mark` stands.

@@ -14,7 +14,7 @@ mod words;
 
 pub use answer::{Answer, Call};
 pub use decimal::read_number;
-pub use fields::{Fields, Separator, is_text};
+pub use fields::{Fields, Separator};
 pub use hex::{Hex, read_bytes};
 pub use line::Line;
 pub use lines::{body, read_line};

@@ -25,6 +25,8 @@ pub trait Field: Sized {
         ensures { result ≡ read text.now };
 }
 
+// The grammar names the numbers of 32, 16 and 8 bits one by one, so that each has its impl; they are read by one function.
+
 // A number of 32 bits.
 impl Field for u32 {
     ghost read = { number32 };
