@@ -2,7 +2,7 @@
 use Rattle.std.proofs.Common.{◌≡◌, ℕ, ◌+◌, ◌-◌, ◌*◌, ◌/◌, ◌%◌, ◌<◌, ◌≤◌, Bool, true, false, ◌&&◌, eqb, zero, suc, List, [], ◌∷◌, ◌++◌, length, get_or, take, drop, Some, None, Option, Result, sym, refl, ap, ◌∙◌, subst, ⊎_elim, arith, rules, le-ltb, lt-ltb, le-leb}
 use Rattle.script.specs.Hex.{byte_of, bytes_of, digit_of, glyph, hex_of, joined, paired, spelled}
 use Rattle.std.proofs.lemmas.Bool.{cases_lt}
-use Rattle.std.proofs.lemmas.List.{append_assoc, take_more}
+use Rattle.std.proofs.lemmas.List.{append_assoc, drop_all, take_more}
 use Rattle.script.specs.Reads.{Says}
 use Rattle.script.specs.declared.refusal.Refusal.{Refusal}
 use Rattle.std.specs.Int.Digits.{AllBelowBase}
@@ -24,7 +24,7 @@ paired_on [] odd = paired odd
 paired_on (p ∷ ps) odd = joined (byte_of (digit_of (get_or p 0 0)) (digit_of (get_or p 1 0))) (paired_on ps odd)
 
 -- a text read by its pairs
-pub paired_chunks : (k : ℕ) (text : List ℕ) → k * 2 ≤ length text → paired text ≡ paired_on (first_chunks 2 k text) (drop (k * 2) text)
+paired_chunks : (k : ℕ) (text : List ℕ) → k * 2 ≤ length text → paired text ≡ paired_on (first_chunks 2 k text) (drop (k * 2) text)
 unfolding paired
 paired_chunks zero text h = refl
 paired_chunks (suc k) [] h = absurd (omega arith)
@@ -33,17 +33,30 @@ paired_chunks (suc k) (x ∷ (y ∷ text)) h =
     let e : suc k * 2 ≡ suc (suc (k * 2)) = omega arith in
     rw e (ap (joined (byte_of (digit_of x) (digit_of y))) (paired_chunks k text (omega arith)))
 
--- behind the last pair stands nothing, or one digit
-pub prefixed_even : (xs odd : List ℕ) → length odd ≡ 0 → prefixed xs (paired odd) ≡ Some xs
-unfolding paired
-prefixed_even xs [] e = ap Some (search rules)
-prefixed_even xs (x ∷ odd) e = absurd (omega arith)
+none_before : (o : Option (List ℕ)) → o ≡ prefixed [] o
+none_before None = refl
+none_before (Some bs) = refl
 
-pub prefixed_odd : (xs odd : List ℕ) → length odd ≡ 1 → prefixed xs (paired odd) ≡ None
+pub paired_whole : (text : List ℕ) → paired text ≡ prefixed [] (paired_on (first_chunks 2 (length text / 2) text) (drop (length text / 2 * 2) text))
+paired_whole text = paired_chunks (length text / 2) text (omega arith) ∙ none_before (paired_on (first_chunks 2 (length text / 2) text) (drop (length text / 2 * 2) text))
+
+-- behind the last pair stands nothing, or one digit
+even : (xs odd : List ℕ) → length odd ≡ 0 → prefixed xs (paired odd) ≡ Some xs
 unfolding paired
-prefixed_odd xs [] e = absurd (omega arith)
-prefixed_odd xs (x ∷ []) e = refl
-prefixed_odd xs (x ∷ (y ∷ odd)) e = absurd (omega arith)
+even xs [] e = ap Some (search rules)
+even xs (x ∷ odd) e = absurd (omega arith)
+
+uneven : (xs odd : List ℕ) → length odd ≡ 1 → prefixed xs (paired odd) ≡ None
+unfolding paired
+uneven xs [] e = absurd (omega arith)
+uneven xs (x ∷ []) e = refl
+uneven xs (x ∷ (y ∷ odd)) e = absurd (omega arith)
+
+pub prefixed_even : (xs odd : List ℕ) (ps : List (List ℕ)) (i : ℕ) → length ps ≤ i → length odd ≡ 0 → prefixed xs (paired_on (drop i ps) odd) ≡ Some xs
+prefixed_even xs odd ps i h e = rw (drop_all i ps h) (even xs odd e)
+
+pub prefixed_odd : (xs odd : List ℕ) (ps : List (List ℕ)) (i : ℕ) → length ps ≤ i → length odd ≡ 1 → prefixed xs (paired_on (drop i ps) odd) ≡ None
+prefixed_odd xs odd ps i h e = rw (drop_all i ps h) (uneven xs odd e)
 
 -- a digit that was printed reads back
 glyph_low : (d : ℕ) → d < 10 → digit_of (glyph d) ≡ Some d

@@ -24,6 +24,7 @@ fn pair(high: u8, low: u8) -> Option<u8>
 }
 
 // The bytes of digits, two and two.
+#[tactic(auto, using(crate::proofs::Pairs::paired_whole, crate::proofs::Pairs::prefixed_even, crate::proofs::Pairs::prefixed_odd))]
 fn read_pairs(heap: Global, text: &[u8]) -> Result<Vec<u8>, Refusal>
     ensures { Says vec_items result (paired text.now) }
 {
@@ -32,11 +33,10 @@ fn read_pairs(heap: Global, text: &[u8]) -> Result<Vec<u8>, Refusal>
     for [high, low] in pairs {
         bytes.push(pair(*high, *low).ok_or(Refusal::BadLine)?)?;
     }
-    if odd.is_empty() {
-        Ok(bytes)
-    } else {
-        Err(Refusal::BadLine)
+    if !odd.is_empty() {
+        return Err(Refusal::BadLine);
     }
+    Ok(bytes)
 }
 
 // The bytes that a text writes, `-` for none. What `Hex` prints of bytes reads back as them.
