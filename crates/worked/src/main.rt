@@ -6,54 +6,40 @@ use product::Pcscf;
 use registration::Row;
 use std::alloc::{AllocError, Global};
 use std::io;
+use tally::Tally;
 
-// How many answers were right, and how many were not.
-#[derive(Drop)]
-struct Tally {
-    right: u32,
-    wrong: u32,
-}
-
-impl Tally {
-    // Counts an answer, and prints it.
-    fn note(&mut self, rt: &HostRuntime, number: usize, found: &str, due: &str) -> io::Result<()> {
-        if found.as_bytes() == due.as_bytes() {
-            self.right = self.right.saturating_add(1);
-            println!(rt; "registration {number}: ok")
-        } else {
-            self.wrong = self.wrong.saturating_add(1);
-            println!(rt; "registration {number}: found {found}, not {due}")
+// A call's answer as `shown` writes it, or its fault.
+fn told<T, F: FnOnce(T) -> Result<String, AllocError>>(
+    heap: Global,
+    answer: Result<T, Fault>,
+    shown: F,
+) -> Result<String, AllocError>
+    requires { F.IsAlwaysCallable shown }
+{
+    match answer {
+        Ok(answer) => shown(answer),
+        Err(fault) => {
+            let number = fault.number();
+            let place = fault.place();
+            format!(in heap; "fault {number}, place {place}")
         }
     }
-}
-
-// A call's answer, or its fault.
-fn refused(heap: Global, fault: Fault) -> Result<String, AllocError> {
-    let number = fault.number();
-    let place = fault.place();
-    format!(in heap; "fault {number}, place {place}")
 }
 
 fn chosen(heap: Global, answer: Result<Chosen, Fault>) -> Result<String, AllocError> {
-    match answer {
-        Ok(chosen) => {
-            let algorithm = chosen.algorithm.number();
-            let spi = chosen.spi;
-            format!(in heap; "algorithm {algorithm}, SPI {spi}")
-        }
-        Err(fault) => refused(heap, fault),
-    }
+    told(heap, answer, |chosen| {
+        let algorithm = chosen.algorithm.number();
+        let spi = chosen.spi;
+        format!(in heap; "algorithm {algorithm}, SPI {spi}")
+    })
 }
 
 fn sent(heap: Global, answer: Result<Sent, Fault>) -> Result<String, AllocError> {
-    match answer {
-        Ok(sent) => {
-            let bytes = sent.bytes;
-            let carrier = sent.carrier.number();
-            format!(in heap; "{bytes} bytes, carrier {carrier}")
-        }
-        Err(fault) => refused(heap, fault),
-    }
+    told(heap, answer, |sent| {
+        let bytes = sent.bytes;
+        let carrier = sent.carrier.number();
+        format!(in heap; "{bytes} bytes, carrier {carrier}")
+    })
 }
 
 // Subscriber 1 registers in clear with a proxy that prefers algorithm 2, is challenged, and cannot be sent to yet.
@@ -72,16 +58,21 @@ fn run_registration(rt: &HostRuntime, tally: &mut Tally) -> io::Result<()> {
     let mut rows = [Row::new(); 2];
     let mut pcscf = Pcscf::open(&mut rows, 6000, &[2, 1]);
     let found = chosen(heap, pcscf.register(address, 1, offer))?;
-    tally.note(rt, 1, found.as_str(), "algorithm 2, SPI 4112")?;
+    tally.note(
+        rt,
+        "registration",
+        1,
+        found.as_str(),
+        "algorithm 2, SPI 4112",
+    )?;
     let found = sent(heap, pcscf.challenge(1, &[7; 16], &segment, &mut out))?;
-    tally.note(rt, 2, found.as_str(), "8 bytes, carrier 0")?;
+    tally.note(rt, "registration", 2, found.as_str(), "8 bytes, carrier 0")?;
     let found = sent(heap, pcscf.send(1, &segment, &mut out))?;
-    tally.note(rt, 3, found.as_str(), "fault 25, place 0")
+    tally.note(rt, "registration", 3, found.as_str(), "fault 25, place 0")
 }
 
 fn main(rt: HostRuntime) -> io::Result<()> {
-    let mut tally = Tally { right: 0, wrong: 0 };
+    let mut tally = Tally::new();
     run_registration(&rt, &mut tally)?;
-    let Tally { right, wrong } = tally;
-    println!(rt; "{right} ok, {wrong} differ")
+    println!(rt; "{tally}")
 }
