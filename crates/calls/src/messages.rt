@@ -6,7 +6,7 @@ ghost use Rattle.std.specs.Option.{ok_or};
 ghost use Rattle.std.specs.Prelude.{◌≡◌};
 
 use procedure::{Message, Offer};
-use script::{Fields, Refusal, is_text};
+use script::{Fields, Refusal};
 
 // The offer that ends a line.
 pub fn read_offer(fields: &mut Fields) -> Result<Offer, Refusal>
@@ -52,14 +52,11 @@ fn read_ordinary(fields: &mut Fields) -> Result<Message, Refusal>
 fn message_by(kind: &[u8], fields: &mut Fields) -> Result<Message, Refusal>
     ensures { result ≡ ok_or (message_by kind.now (fields_of fields.old)) BadLine }
 {
-    if is_text(kind, b"opening") {
-        read_opening(fields)
-    } else if is_text(kind, b"response") {
-        read_response(fields)
-    } else if is_text(kind, b"ordinary") {
-        read_ordinary(fields)
-    } else {
-        Err(Refusal::BadLine)
+    match kind {
+        b"opening" => read_opening(fields),
+        b"response" => read_response(fields),
+        b"ordinary" => read_ordinary(fields),
+        _ => Err(Refusal::BadLine),
     }
 }
 

@@ -7,7 +7,7 @@ ghost use Rattle.std.specs.Prelude.{◌≡◌, vec_items};
 
 use crate::line::CallLine;
 use procedure::Outcome;
-use script::{Fields, Refusal, is_text};
+use script::{Fields, Refusal};
 use std::alloc::Global;
 
 fn success_line(
@@ -58,11 +58,11 @@ fn conclude_by(
 ) -> Result<CallLine<Vec<u8>>, Refusal>
     ensures { Says (call_by vec_items) result (conclude_by subscriber kind.now (fields_of fields.old)) }
 {
-    if is_text(kind, b"success") {
+    if kind == b"success".as_slice() {
         success_line(heap, subscriber, fields)
-    } else if is_text(kind, b"user-failure") {
+    } else if kind == b"user-failure".as_slice() {
         failure_line(heap, subscriber, Outcome::UserFailure, fields)
-    } else if is_text(kind, b"other-failure") {
+    } else if kind == b"other-failure".as_slice() {
         failure_line(heap, subscriber, Outcome::OtherFailure, fields)
     } else {
         Err(Refusal::BadLine)

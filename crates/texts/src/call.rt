@@ -1,5 +1,5 @@
 // Printing the answer of a call.
-ghost use Rattle.texts.specs.Calls.{text_of};
+ghost use Rattle.texts.specs.Calls.{chosen_text, text_of};
 ghost use Rattle.std.specs.Prelude.{Some};
 
 use crate::name::CallName;
@@ -47,6 +47,20 @@ pub enum CallAnswer {
     },
 }
 
+// What the proxy chose, as it is printed behind `algorithm=`.
+#[derive(Drop)]
+struct Picked<'a>(&'a Chosen);
+
+impl<'a> fmt::Display for Picked<'a> {
+    ghost output = { λ p. Some (chosen_text p.0.now) };
+
+    fn fmt<W: fmt::Write>(&self, f: &mut fmt::Formatter<W>) -> fmt::Result {
+        let algorithm = self.0.algorithm.number();
+        let spi = self.0.spi;
+        write!(f, "{algorithm} spi={spi}")
+    }
+}
+
 impl fmt::Display for CallAnswer {
     ghost output = { λ a. Some (text_of a) };
 
@@ -54,18 +68,13 @@ impl fmt::Display for CallAnswer {
         match self {
             CallAnswer::Opened { rows } => write!(f, "open n={rows}"),
             CallAnswer::Ticked { clock } => write!(f, "tick clock={clock}"),
-            CallAnswer::Registered { chosen } => {
-                let algorithm = chosen.algorithm.number();
-                let spi = chosen.spi;
-                write!(f, "register algorithm={algorithm} spi={spi}")
-            }
+            CallAnswer::Registered { chosen } => write!(f, "register algorithm={}", Picked(chosen)),
             CallAnswer::Sent { call, carrier, out } => {
-                let name = call.name();
                 let bytes = out.len();
                 let carrier = carrier.number();
                 write!(
                     f,
-                    "{name} bytes={bytes} carrier={carrier} out={}",
+                    "{call} bytes={bytes} carrier={carrier} out={}",
                     Hex(out.as_slice())
                 )
             }
@@ -82,23 +91,19 @@ impl fmt::Display for CallAnswer {
                         f,
                         "arrive subscriber={subscriber} slot={slot} segment={bytes}"
                     ),
-                    Some(chosen) => {
-                        let algorithm = chosen.algorithm.number();
-                        let spi = chosen.spi;
-                        write!(
-                            f,
-                            "arrive subscriber={subscriber} slot={slot} segment={bytes} algorithm={algorithm} spi={spi}"
-                        )
-                    }
+                    Some(chosen) => write!(
+                        f,
+                        "arrive subscriber={subscriber} slot={slot} segment={bytes} algorithm={}",
+                        Picked(chosen)
+                    ),
                 }
             }
             CallAnswer::Refreshed { expiry } => write!(f, "refresh expiry={expiry}"),
             CallAnswer::Deregistered { remaining } => write!(f, "deregister remaining={remaining}"),
             CallAnswer::Refused { call, fault } => {
-                let name = call.name();
                 let number = fault.number();
                 let place = fault.place();
-                write!(f, "{name} fault={number} place={place}")
+                write!(f, "{call} fault={number} place={place}")
             }
         }
     }

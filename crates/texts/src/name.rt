@@ -1,8 +1,8 @@
 // The calls by the first word of their lines.
 ghost use Rattle.texts.specs.Names.{named, name_of};
-ghost use Rattle.std.specs.Prelude.{◌≡◌};
+ghost use Rattle.std.specs.Prelude.{◌≡◌, Some};
 
-use script::is_text;
+use std::fmt;
 
 #[derive(Clone, Copy)]
 pub enum CallName {
@@ -17,12 +17,12 @@ pub enum CallName {
     Deregister,
 }
 
-impl CallName {
-    // The first word of the call's line.
-    pub fn name(self) -> &'static str
-        ensures { result.now ≡ name_of self }
-    {
-        match self {
+// The first word of the call's line.
+impl fmt::Display for CallName {
+    ghost output = { λ c. Some (name_of c) };
+
+    fn fmt<W: fmt::Write>(&self, f: &mut fmt::Formatter<W>) -> fmt::Result {
+        f.write_str(match self {
             CallName::Open => "open",
             CallName::Tick => "tick",
             CallName::Register => "register",
@@ -32,7 +32,7 @@ impl CallName {
             CallName::Send => "send",
             CallName::Refresh => "refresh",
             CallName::Deregister => "deregister",
-        }
+        })
     }
 }
 
@@ -40,25 +40,16 @@ impl CallName {
 pub fn read_name(word: &[u8]) -> Option<CallName>
     ensures { result ≡ named word.now }
 {
-    if is_text(word, b"open") {
-        Some(CallName::Open)
-    } else if is_text(word, b"tick") {
-        Some(CallName::Tick)
-    } else if is_text(word, b"register") {
-        Some(CallName::Register)
-    } else if is_text(word, b"challenge") {
-        Some(CallName::Challenge)
-    } else if is_text(word, b"arrive") {
-        Some(CallName::Arrive)
-    } else if is_text(word, b"outcome") {
-        Some(CallName::Conclude)
-    } else if is_text(word, b"send") {
-        Some(CallName::Send)
-    } else if is_text(word, b"refresh") {
-        Some(CallName::Refresh)
-    } else if is_text(word, b"deregister") {
-        Some(CallName::Deregister)
-    } else {
-        None
+    match word {
+        b"open" => Some(CallName::Open),
+        b"tick" => Some(CallName::Tick),
+        b"register" => Some(CallName::Register),
+        b"challenge" => Some(CallName::Challenge),
+        b"arrive" => Some(CallName::Arrive),
+        b"outcome" => Some(CallName::Conclude),
+        b"send" => Some(CallName::Send),
+        b"refresh" => Some(CallName::Refresh),
+        b"deregister" => Some(CallName::Deregister),
+        _ => None,
     }
 }
