@@ -1,2 +1,1 @@
 pub mod Halves
-mod Words

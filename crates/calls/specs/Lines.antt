@@ -76,8 +76,7 @@ called_by call.Deregister ws = deregister_line ws
 
 -- the words of a line, of which the first names the call
 abbrev pub words_call : List (List ℕ) → Option (CallLine (List ℕ))
-words_call [] = None
-words_call (w ∷ ws) = and_then (named w) (λ c. called_by c ws)
+words_call ws = field named ws called_by
 
 -- what a line calls
 unfoldable pub call_of : List ℕ → Option (CallLine (List ℕ))

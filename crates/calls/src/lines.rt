@@ -13,19 +13,16 @@ use crate::line::{CallLine, Line};
 use crate::messages::{read_message, read_offer};
 use crate::outcomes::conclude_line;
 use association::Address;
-use script::{Fields, Refusal, Separator, body, read_number};
+use script::{Field, Fields, Refusal, Separator, body};
 use std::alloc::Global;
-use texts::{CallName, read_name};
+use texts::CallName;
 
 // The next field as an address.
 fn address(heap: Global, fields: &mut Fields) -> Result<Address, Refusal>
     ensures value { Says (λ a. a) result (first_as address_of (fields_of fields.old)) }
     ensures rest { fields_of fields.new ≡ others (fields_of fields.old) }
 {
-    let Some(text) = fields.next() else {
-        return Err(Refusal::BadLine);
-    };
-    read_address(heap, text)
+    read_address(heap, fields.expected()?)
 }
 
 // The number of 8 bits that ends a line or is left out.
@@ -35,21 +32,17 @@ fn last_byte(fields: &mut Fields) -> Result<Option<u8>, Refusal>
     let Some(text) = fields.next() else {
         return Ok(None);
     };
-    match read_number(text, 255) {
-        Some(number) => {
-            fields.end()?;
-            Ok(Some(number as u8))
-        }
-        None => Err(Refusal::BadLine),
-    }
+    let byte = u8::read(text).ok_or(Refusal::BadLine)?;
+    fields.end()?;
+    Ok(Some(byte))
 }
 
 fn open_line(fields: &mut Fields) -> Result<CallLine<Vec<u8>>, Refusal>
     ensures { Says (call_by vec_items) result (open_line (fields_of fields.old)) }
 {
-    let rows = fields.number()?;
-    let port = fields.short()?;
-    let first = fields.byte()?;
+    let rows = fields.read()?;
+    let port = fields.read()?;
+    let first = fields.read()?;
     let second = last_byte(fields)?;
     Ok(CallLine::Open {
         rows,
@@ -62,7 +55,7 @@ fn open_line(fields: &mut Fields) -> Result<CallLine<Vec<u8>>, Refusal>
 fn tick_line(fields: &mut Fields) -> Result<CallLine<Vec<u8>>, Refusal>
     ensures { Says (call_by vec_items) result (tick_line (fields_of fields.old)) }
 {
-    let time = fields.number()?;
+    let time = fields.read()?;
     fields.end()?;
     Ok(CallLine::Tick { time })
 }
@@ -71,7 +64,7 @@ fn register_line(heap: Global, fields: &mut Fields) -> Result<CallLine<Vec<u8>>,
     ensures { Says (call_by vec_items) result (register_line (fields_of fields.old)) }
 {
     let address = address(heap, fields)?;
-    let subscriber = fields.number()?;
+    let subscriber = fields.read()?;
     let offer = read_offer(fields)?;
     Ok(CallLine::Register {
         address,
@@ -83,10 +76,10 @@ fn register_line(heap: Global, fields: &mut Fields) -> Result<CallLine<Vec<u8>>,
 fn challenge_line(heap: Global, fields: &mut Fields) -> Result<CallLine<Vec<u8>>, Refusal>
     ensures { Says (call_by vec_items) result (challenge_line (fields_of fields.old)) }
 {
-    let subscriber = fields.number()?;
+    let subscriber = fields.read()?;
     let ik = fields.ik(heap)?;
     let segment = fields.bytes(heap)?;
-    let area = fields.number()?;
+    let area = fields.read()?;
     fields.end()?;
     Ok(CallLine::Challenge {
         subscriber,
@@ -112,9 +105,9 @@ fn arrive_line(heap: Global, fields: &mut Fields) -> Result<CallLine<Vec<u8>>, R
 fn send_line(heap: Global, fields: &mut Fields) -> Result<CallLine<Vec<u8>>, Refusal>
     ensures { Says (call_by vec_items) result (send_line (fields_of fields.old)) }
 {
-    let subscriber = fields.number()?;
+    let subscriber = fields.read()?;
     let segment = fields.bytes(heap)?;
-    let area = fields.number()?;
+    let area = fields.read()?;
     fields.end()?;
     Ok(CallLine::Send {
         subscriber,
@@ -126,8 +119,8 @@ fn send_line(heap: Global, fields: &mut Fields) -> Result<CallLine<Vec<u8>>, Ref
 fn refresh_line(fields: &mut Fields) -> Result<CallLine<Vec<u8>>, Refusal>
     ensures { Says (call_by vec_items) result (refresh_line (fields_of fields.old)) }
 {
-    let subscriber = fields.number()?;
-    let timer = fields.number()?;
+    let subscriber = fields.read()?;
+    let timer = fields.read()?;
     fields.end()?;
     Ok(CallLine::Refresh { subscriber, timer })
 }
@@ -135,8 +128,8 @@ fn refresh_line(fields: &mut Fields) -> Result<CallLine<Vec<u8>>, Refusal>
 fn deregister_line(fields: &mut Fields) -> Result<CallLine<Vec<u8>>, Refusal>
     ensures { Says (call_by vec_items) result (deregister_line (fields_of fields.old)) }
 {
-    let subscriber = fields.number()?;
-    let mask = fields.short()?;
+    let subscriber = fields.read()?;
+    let mask = fields.read()?;
     fields.end()?;
     Ok(CallLine::Deregister { subscriber, mask })
 }
@@ -159,26 +152,23 @@ fn call_by(heap: Global, call: CallName, fields: &mut Fields) -> Result<CallLine
 }
 
 // A line that calls the proxy.
+#[tactic(auto, unfolding(crate::specs::Lines::call_of))]
 fn read_call(heap: Global, line: &[u8]) -> Result<CallLine<Vec<u8>>, Refusal>
     ensures { Says (call_by vec_items) result (call_of line.now) }
 {
     let mut fields = Fields::new(body(line), Separator::Space);
-    let Some(word) = fields.next() else {
-        return Err(Refusal::BadLine);
-    };
-    match read_name(word) {
-        Some(call) => call_by(heap, call, &mut fields),
-        None => Err(Refusal::BadLine),
-    }
+    let call = fields.read()?;
+    call_by(heap, call, &mut fields)
 }
 
 // A line of a script: what is not of the packet layer's grammar calls the proxy or is no line.
+#[tactic(auto, unfolding(crate::specs::Lines::line_of))]
 pub fn read_line(heap: Global, line: &[u8]) -> Result<Line<Vec<u8>>, Refusal>
     ensures { Says (line_by vec_items) result (line_of line.now) }
 {
     match script::read_line(heap, line) {
         Ok(packets) => Ok(Line::Packets(packets)),
-        Err(Refusal::BadLine) => Ok(Line::Call(read_call(heap, line)?)),
+        Err(Refusal::BadLine) => read_call(heap, line).map(Line::Call),
         Err(Refusal::NoMemory) => Err(Refusal::NoMemory),
     }
 }

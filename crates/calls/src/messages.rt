@@ -12,10 +12,10 @@ use script::{Fields, Refusal};
 pub fn read_offer(fields: &mut Fields) -> Result<Offer, Refusal>
     ensures { result ≡ ok_or (offer_of (fields_of fields.old)) BadLine }
 {
-    let port = fields.short()?;
-    let spi = fields.number()?;
-    let first = fields.byte()?;
-    let second = fields.byte()?;
+    let port = fields.read()?;
+    let spi = fields.read()?;
+    let first = fields.read()?;
+    let second = fields.read()?;
     fields.end()?;
     Ok(Offer {
         port,
@@ -28,7 +28,7 @@ pub fn read_offer(fields: &mut Fields) -> Result<Offer, Refusal>
 fn read_opening(fields: &mut Fields) -> Result<Message, Refusal>
     ensures { result ≡ ok_or (opening_of (fields_of fields.old)) BadLine }
 {
-    let subscriber = fields.number()?;
+    let subscriber = fields.read()?;
     let offer = read_offer(fields)?;
     Ok(Message::Opening { subscriber, offer })
 }
@@ -43,7 +43,7 @@ fn read_response(fields: &mut Fields) -> Result<Message, Refusal>
 fn read_ordinary(fields: &mut Fields) -> Result<Message, Refusal>
     ensures { result ≡ ok_or (ordinary_of (fields_of fields.old)) BadLine }
 {
-    let impu = fields.byte()?;
+    let impu = fields.read()?;
     fields.end()?;
     Ok(Message::Ordinary { impu })
 }
@@ -61,11 +61,10 @@ fn message_by(kind: &[u8], fields: &mut Fields) -> Result<Message, Refusal>
 }
 
 // The message that ends a line, its kind first.
+#[tactic(auto, unfolding(crate::specs::Messages::message_of))]
 pub fn read_message(fields: &mut Fields) -> Result<Message, Refusal>
     ensures { result ≡ ok_or (message_of (fields_of fields.old)) BadLine }
 {
-    match fields.next() {
-        Some(kind) => message_by(kind, fields),
-        None => Err(Refusal::BadLine),
-    }
+    let kind = fields.expected()?;
+    message_by(kind, fields)
 }

@@ -17,10 +17,10 @@ fn success_line(
 ) -> Result<CallLine<Vec<u8>>, Refusal>
     ensures { Says (call_by vec_items) result (success_line subscriber (fields_of fields.old)) }
 {
-    let timer = fields.number()?;
-    let mask = fields.short()?;
+    let timer = fields.read()?;
+    let mask = fields.read()?;
     let segment = fields.bytes(heap)?;
-    let area = fields.number()?;
+    let area = fields.read()?;
     fields.end()?;
     Ok(CallLine::Conclude {
         subscriber,
@@ -39,7 +39,7 @@ fn failure_line(
     ensures { Says (call_by vec_items) result (failure_line subscriber outcome (fields_of fields.old)) }
 {
     let segment = fields.bytes(heap)?;
-    let area = fields.number()?;
+    let area = fields.read()?;
     fields.end()?;
     Ok(CallLine::Conclude {
         subscriber,
@@ -49,7 +49,8 @@ fn failure_line(
     })
 }
 
-// The outcome that a word names, with its fields.
+// The outcome that a word names, with its fields. It is no `match` on the word, whose last arm is reached from each letter of
+// the three: the goal of that arm does not close.
 fn conclude_by(
     heap: Global,
     subscriber: u32,
@@ -70,6 +71,7 @@ fn conclude_by(
 }
 
 // The outcome that ends a line, its kind first.
+#[tactic(auto, unfolding(crate::specs::Outcomes::conclude_as))]
 fn conclude_as(
     heap: Global,
     subscriber: u32,
@@ -77,15 +79,13 @@ fn conclude_as(
 ) -> Result<CallLine<Vec<u8>>, Refusal>
     ensures { Says (call_by vec_items) result (conclude_as subscriber (fields_of fields.old)) }
 {
-    match fields.next() {
-        Some(kind) => conclude_by(heap, subscriber, kind, fields),
-        None => Err(Refusal::BadLine),
-    }
+    let kind = fields.expected()?;
+    conclude_by(heap, subscriber, kind, fields)
 }
 
 pub fn conclude_line(heap: Global, fields: &mut Fields) -> Result<CallLine<Vec<u8>>, Refusal>
     ensures { Says (call_by vec_items) result (conclude_line (fields_of fields.old)) }
 {
-    let subscriber = fields.number()?;
+    let subscriber = fields.read()?;
     conclude_as(heap, subscriber, fields)
 }

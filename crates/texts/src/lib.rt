@@ -5,4 +5,4 @@ mod call;
 mod name;
 
 pub use call::CallAnswer;
-pub use name::{CallName, read_name};
+pub use name::CallName;

@@ -1,7 +1,8 @@
 // The calls by the first word of their lines.
 ghost use Rattle.texts.specs.Names.{named, name_of};
-ghost use Rattle.std.specs.Prelude.{◌≡◌, Some};
+ghost use Rattle.std.specs.Prelude.{Some};
 
+use script::Field;
 use std::fmt;
 
 #[derive(Clone, Copy)]
@@ -37,19 +38,21 @@ impl fmt::Display for CallName {
 }
 
 // The call that a word names.
-pub fn read_name(word: &[u8]) -> Option<CallName>
-    ensures { result ≡ named word.now }
-{
-    match word {
-        b"open" => Some(CallName::Open),
-        b"tick" => Some(CallName::Tick),
-        b"register" => Some(CallName::Register),
-        b"challenge" => Some(CallName::Challenge),
-        b"arrive" => Some(CallName::Arrive),
-        b"outcome" => Some(CallName::Conclude),
-        b"send" => Some(CallName::Send),
-        b"refresh" => Some(CallName::Refresh),
-        b"deregister" => Some(CallName::Deregister),
-        _ => None,
+impl Field for CallName {
+    ghost read = { named };
+
+    fn read(word: &[u8]) -> Option<CallName> {
+        match word {
+            b"open" => Some(CallName::Open),
+            b"tick" => Some(CallName::Tick),
+            b"register" => Some(CallName::Register),
+            b"challenge" => Some(CallName::Challenge),
+            b"arrive" => Some(CallName::Arrive),
+            b"outcome" => Some(CallName::Conclude),
+            b"send" => Some(CallName::Send),
+            b"refresh" => Some(CallName::Refresh),
+            b"deregister" => Some(CallName::Deregister),
+            _ => None,
+        }
     }
 }

@@ -4,7 +4,7 @@ use Rattle.script.specs.Fields.{fields_of}
 use Rattle.script.specs.declared.refusal.Refusal.TheVariants.{BadLine}
 use Rattle.std.proofs.Common.{ap, codes, arith, ◌∙◌}
 use Rattle.std.specs.Option.{ok_or}
-use Rattle.texts.proofs.Letters.{is_word}
+use Rattle.script.proofs.Letters.{is_word}
 
 pub returns-in-opening : goal.returns-in-opening
 returns-in-opening c =

@@ -1,6 +1,6 @@
 use Rattle.std.proofs.Common.{ap, codes, arith}
-use Rattle.texts.proofs.Letters.{is_word}
-use Rattle.texts.proofs.name.read_name.Goals as goal
+use Rattle.script.proofs.Letters.{is_word}
+use Rattle.texts.proofs.name.CallNameField.read.Goals as goal
 use Rattle.texts.specs.Names.{named}
 
 pub returns-in-register : goal.returns-in-register
