@@ -1,45 +1,12 @@
 -- What is printed for each line, and the replay window that is kept from line to line.
-use Rattle.std.specs.Prelude.{ℕ, List, take, Some, None, Ok, Err, Option, Result}
-use Rattle.esp.specs.Faults.{number_of, place_of}
-use Rattle.esp.specs.Opening.{opening}
-use Rattle.esp.specs.Sealing.{Sealing, sealing}
-use Rattle.esp.specs.Window.{empty}
-use Rattle.esp.specs.declared.faults.Fault.{Fault}
+use Rattle.std.specs.Prelude.{ℕ, List, Some, None, Option}
 use Rattle.esp.specs.declared.window.ReplayWindow.{ReplayWindow}
-use Rattle.replay.specs.Packets.{packet_bytes}
-use Rattle.replay.specs.Product.{mac_of}
-use Rattle.script.specs.Answers.{bad_text, fault_text, seal_text, tag_text, unseal_text, window_text}
-use Rattle.script.specs.declared.answer.Call.TheVariants.{Seal as SealCall, Unseal as UnsealCall}
+use Rattle.replies.specs.Replies as layer
+use Rattle.script.specs.Answers.{bad_text}
 use Rattle.script.specs.declared.line.Line.{Line}
-use Rattle.script.specs.declared.line.Line.TheVariants.{Seal, Skipped, Tag, Unseal, Window}
-
--- what a line leads to: the text that is printed, if any, and the window after it
-pub record Reply : Type 0 where
-  pub text : Option (List ℕ)
-  pub window : ReplayWindow
-
--- what is printed of a sealing, and of an opening
-abbrev pub seal_reply : Result ℕ Fault → ℕ → List ℕ → List ℕ
-seal_reply (Ok n) count packet = seal_text count packet
-seal_reply (Err fault) count packet = fault_text SealCall (number_of fault) (place_of fault)
-
-abbrev pub sealing_reply : Sealing → List ℕ
-sealing_reply s = seal_reply s.result s.counter s.written
-
-abbrev pub open_reply : Result (List ℕ × ℕ) Fault → List ℕ
-open_reply (Ok segment) = unseal_text segment.1 segment.0
-open_reply (Err fault) = fault_text UnsealCall (number_of fault) (place_of fault)
 
 -- the reply to the line with the number n. A line that is not of the grammar changes nothing, and so does each
 -- call of the packet layer but for the window's.
-abbrev pub reply_to : ReplayWindow → ℕ → Option (Line (List ℕ)) → Reply
+abbrev pub reply_to : ReplayWindow → ℕ → Option (Line (List ℕ)) → layer.Reply
 reply_to w n None = record { text = Some (bad_text n); window = w }
-reply_to w n (Some Skipped) = record { text = None; window = w }
-reply_to w n (Some (Tag a ik text)) = record { text = Some (tag_text (mac_of a ik (take 4096 text))); window = w }
-reply_to w n (Some (Seal a ik spi count segment area)) =
-    record { text = Some (sealing_reply (sealing (mac_of a) ik spi count segment area)); window = w }
-reply_to w n (Some Window) = record { text = Some window_text; window = empty }
-reply_to w n (Some (Unseal a ik spi packet)) = record {
-  text = Some (open_reply (opening (mac_of a) ik spi w (packet_bytes packet)).result);
-  window = (opening (mac_of a) ik spi w (packet_bytes packet)).window;
-}
+reply_to w n (Some line) = layer.reply_to w line

@@ -3,11 +3,10 @@
 // Each answer is written out before the next line is waited for, and no more than one line is held at a time.
 #![tactic(auto)]
 
-mod packets;
-mod product;
-mod replies;
+mod reply;
 
 use esp::ReplayWindow;
+use reply::reply;
 use std::io;
 use std::io::{BufRead, BufReader};
 
@@ -21,8 +20,8 @@ fn main(rt: HostRuntime) -> io::Result<()> {
         if input.read_until(b'\n', &mut line)? == 0 {
             break;
         }
-        if let Some(text) = replies::reply(heap, number, line.as_slice(), &mut window)? {
-            println!(rt; "{text}")?;
+        if let Some(answer) = reply(heap, number, line.as_slice(), &mut window)? {
+            println!(rt; "{answer}")?;
         }
     }
     Ok(())
