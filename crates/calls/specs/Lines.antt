@@ -27,7 +27,7 @@ last_byte (w ∷ ws) = and_then (number8 w) (λ n. ended (Some n) ws)
 abbrev pub open_line : List (List ℕ) → Option (CallLine (List ℕ))
 open_line ws =
     field number32 ws (λ rows ws. field number16 ws (λ port ws. field number8 ws (λ a ws.
-    and_then (last_byte ws) (λ b. Some (Open rows port a b)))))
+    and_then (last_byte ws) (λ b. Some (Open (record { rows = rows; port = port; first = a; second = b }))))))
 
 --   tick T
 abbrev pub tick_line : List (List ℕ) → Option (CallLine (List ℕ))
@@ -94,7 +94,7 @@ line_of line = either (packets.line_of line) (call_of line)
 
 -- the same line, its bytes seen through f
 abbrev pub call_by : {X Y : Type 0} → (X → Y) → CallLine X → CallLine Y
-call_by f (Open rows port a b) = Open rows port a b
+call_by f (Open opening) = Open opening
 call_by f (Tick t) = Tick t
 call_by f (Register a s o) = Register a s o
 call_by f (Challenge s k segment area) = Challenge s k (f segment) area

@@ -5,7 +5,9 @@ mod addresses;
 mod line;
 mod lines;
 mod messages;
+mod opening;
 mod outcomes;
 
 pub use line::{CallLine, Line};
 pub use lines::read_line;
+pub use opening::Opening;

@@ -1,4 +1,5 @@
 // The lines of a script that call the proxy, their bytes held in a `B`.
+use crate::opening::Opening;
 use association::Address;
 use integrity::Ik;
 use procedure::{Message, Offer, Outcome};
@@ -6,13 +7,8 @@ use script::Packet;
 
 #[derive(Drop)]
 pub enum CallLine<B> {
-    // A fresh proxy with so many rows, its protected port, and its algorithms by their numbers, the preferred first.
-    Open {
-        rows: u32,
-        port: u16,
-        first: u8,
-        second: Option<u8>,
-    },
+    // A fresh proxy.
+    Open(Opening),
     // The clock set to a second.
     Tick {
         time: u32,

@@ -11,6 +11,7 @@ ghost use Rattle.std.specs.Option.{ok_or};
 use crate::addresses::read_address;
 use crate::line::{CallLine, Line};
 use crate::messages::{read_message, read_offer};
+use crate::opening::Opening;
 use crate::outcomes::conclude_line;
 use association::Address;
 use script::{Field, Fields, Refusal, Separator, body};
@@ -44,12 +45,12 @@ fn open_line(fields: &mut Fields) -> Result<CallLine<Vec<u8>>, Refusal>
     let port = fields.read()?;
     let first = fields.read()?;
     let second = last_byte(fields)?;
-    Ok(CallLine::Open {
+    Ok(CallLine::Open(Opening {
         rows,
         port,
         first,
         second,
-    })
+    }))
 }
 
 fn tick_line(fields: &mut Fields) -> Result<CallLine<Vec<u8>>, Refusal>

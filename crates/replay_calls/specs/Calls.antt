@@ -4,6 +4,7 @@ use Rattle.association.specs.Asked.{Address}
 use Rattle.texts.specs.Calls.{arrive_text, deregister_text, fault_text, open_text, refresh_text, register_text, sent_text, tick_text}
 use Rattle.calls.specs.declared.line.CallLine.{CallLine}
 use Rattle.calls.specs.declared.line.CallLine.TheVariants.{Arrive, Challenge, Conclude, Deregister, Open, Refresh, Register, Send, Tick}
+use Rattle.calls.specs.declared.opening.Opening.{Opening}
 use Rattle.texts.specs.declared.name.CallName.{CallName}
 use Rattle.texts.specs.declared.name.CallName.TheVariants as call
 use Rattle.product.specs.Product.{macs}
@@ -14,8 +15,7 @@ use Rattle.registration.specs.Rows.{blank}
 use Rattle.procedure.specs.declared.carrier.Sent.{Sent}
 use Rattle.procedure.specs.declared.faults.Fault.{Fault}
 use Rattle.procedure.specs.declared.message.Message.{Message}
-use Rattle.replay_calls.specs.Packets.{packet_bytes}
-use Rattle.replay_calls.specs.declared.opening.Opening.{Opening}
+use Rattle.replies.specs.Packets.{packet_bytes}
 
 -- the answer or the refusal of a call
 abbrev pub said : {X : Type 0} → CallName → (X → List ℕ) → Result X Fault → List ℕ
@@ -50,7 +50,7 @@ opened_by o = opened (replicate (min o.rows 4096) blank) o.port (list_of o.first
 
 -- the text that is printed for a call
 abbrev pub text_for : CallLine (List ℕ) → State → List ℕ
-text_for (Open rows port a b) σ = open_text (count_of (opened_by (record { rows = rows; port = port; first = a; second = b })))
+text_for (Open opening) σ = open_text (count_of (opened_by opening))
 text_for (Tick t) σ = said call.Tick tick_text (ticked t σ).1
 text_for (Register a s o) σ = said call.Register register_text (registered a s o σ).1
 text_for (Challenge s ik segment area) σ = sending_said call.Challenge (challenging macs s ik segment area σ)
@@ -62,7 +62,7 @@ text_for (Deregister s mask) σ = said call.Deregister deregister_text (deregist
 
 -- the proxy after a call. An `open` line changes nothing of the proxy that stands: another is opened in its place.
 abbrev pub state_after : CallLine (List ℕ) → State → State
-state_after (Open rows port a b) σ = σ
+state_after (Open opening) σ = σ
 state_after (Tick t) σ = (ticked t σ).0
 state_after (Register a s o) σ = (registered a s o σ).0
 state_after (Challenge s ik segment area) σ = (challenging macs s ik segment area σ).state

@@ -3,18 +3,14 @@
 // Each answer is written out before the next line is waited for, and no more than one line is held at a time.
 #![tactic(auto)]
 
-mod algorithms;
 mod answers;
 mod next;
-mod opening;
 mod openings;
-mod packets;
-mod replies;
 mod turns;
 
+use calls::Opening;
 use esp::ReplayWindow;
 use next::Next;
-use opening::Opening;
 use product::Pcscf;
 use registration::Row;
 use std::alloc::Global;
@@ -59,8 +55,9 @@ fn session(
             window,
             pcscf,
         )? {
-            Next::Silent => {}
-            Next::Say(text) => println!(rt; "{text}")?,
+            Next::Layer(Some(answer)) => println!(rt; "{answer}")?,
+            Next::Layer(None) => {}
+            Next::Call(answer) => println!(rt; "{answer}")?,
             Next::Open(opening) => return Ok(Some(opening)),
         }
     }
@@ -75,10 +72,10 @@ fn main(rt: HostRuntime) -> io::Result<()> {
         number: 0,
     };
     let mut window = ReplayWindow::new();
-    let mut opening = Opening::none();
+    let mut opening = openings::NOBODY;
     for opened in 0..u64::MAX {
-        let mut rows = vec![in heap; Row::new(); opening.room()]?;
-        let mut pcscf = opening.open(rows.as_mut_slice());
+        let mut rows = vec![in heap; Row::new(); openings::room(&opening)]?;
+        let mut pcscf = openings::open(&opening, rows.as_mut_slice());
         if opened > 0 {
             let answer = CallAnswer::Opened {
                 rows: pcscf.count(),

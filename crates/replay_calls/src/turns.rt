@@ -5,83 +5,78 @@ ghost use Rattle.replay_calls.specs.Calls.{state_after, text_for};
 ghost use Rattle.replay_calls.specs.Turns.{Shows, turn_of};
 ghost use Rattle.std.specs.Prelude.{◌≡◌, IfOk, Some, vec_items};
 
-use crate::answers;
+use crate::answers::{answered, arrived, sent};
 use crate::next::Next;
-use crate::opening::Opening;
-use crate::packets::packet_bytes;
-use crate::replies::{perform, unread};
-use calls::{CallLine, Line};
-use esp::ReplayWindow;
+use calls::{CallLine, Line, read_line};
+use esp::{LONGEST_PACKET, ReplayWindow};
 use product::Pcscf;
+use replies::{packet_bytes, perform, unread};
 use std::alloc::{AllocError, Global};
+use texts::{CallAnswer, CallName};
 
-// The reply to a call.
+// What follows from a call.
 fn call(heap: Global, pcscf: &mut Pcscf, line: CallLine<Vec<u8>>) -> Result<Next, AllocError>
     ensures { IfOk result (λ n. Shows n (Some (text_for (call_by vec_items line) (state_in pcscf.old))) × (state_in pcscf.new ≡ state_after (call_by vec_items line) (state_in pcscf.old))) }
 {
+    let mut out = [0; LONGEST_PACKET];
     match line {
-        CallLine::Open {
-            rows,
-            port,
-            first,
-            second,
-        } => Ok(Next::Open(Opening {
-            rows,
-            port,
-            first,
-            second,
-        })),
-        CallLine::Tick { time } => Ok(Next::Say(answers::tick(heap, pcscf, time)?)),
+        CallLine::Open(opening) => Ok(Next::Open(opening)),
+        CallLine::Tick { time } => {
+            let gave = pcscf.tick(time);
+            Ok(Next::Call(answered(CallName::Tick, gave, |clock| CallAnswer::Ticked { clock })))
+        }
         CallLine::Register {
             address,
             subscriber,
             offer,
-        } => Ok(Next::Say(answers::register(heap, pcscf, address, subscriber, offer)?)),
+        } => {
+            let gave = pcscf.register(address, subscriber, offer);
+            Ok(Next::Call(answered(CallName::Register, gave, |chosen| CallAnswer::Registered { chosen })))
+        }
         CallLine::Challenge {
             subscriber,
             ik,
             segment,
             area,
-        } => Ok(Next::Say(answers::challenge(
-            heap,
-            pcscf,
-            subscriber,
-            &ik,
-            segment.as_slice(),
-            area,
-        )?)),
+        } => {
+            let gave = pcscf.challenge_within(subscriber, &ik, segment.as_slice(), area, &mut out);
+            Ok(Next::Call(sent(heap, CallName::Challenge, gave, &out)?))
+        }
         CallLine::Arrive {
             address,
             packet,
             message,
         } => {
             let bytes = packet_bytes(heap, packet)?;
-            Ok(Next::Say(answers::arrive(heap, pcscf, address, bytes.as_slice(), message)?))
+            let gave = pcscf.arrive(address, bytes.as_slice(), message);
+            Ok(Next::Call(arrived(heap, gave)?))
         }
         CallLine::Conclude {
             subscriber,
             outcome,
             segment,
             area,
-        } => Ok(Next::Say(answers::conclude(
-            heap,
-            pcscf,
-            subscriber,
-            outcome,
-            segment.as_slice(),
-            area,
-        )?)),
+        } => {
+            let gave =
+                pcscf.outcome_within(subscriber, outcome, segment.as_slice(), area, &mut out);
+            Ok(Next::Call(sent(heap, CallName::Conclude, gave, &out)?))
+        }
         CallLine::Send {
             subscriber,
             segment,
             area,
-        } => Ok(Next::Say(answers::send(heap, pcscf, subscriber, segment.as_slice(), area)?)),
-        CallLine::Refresh { subscriber, timer } => Ok(Next::Say(answers::refresh(
-            heap, pcscf, subscriber, timer,
-        )?)),
-        CallLine::Deregister { subscriber, mask } => Ok(Next::Say(answers::deregister(
-            heap, pcscf, subscriber, mask,
-        )?)),
+        } => {
+            let gave = pcscf.send_within(subscriber, segment.as_slice(), area, &mut out);
+            Ok(Next::Call(sent(heap, CallName::Send, gave, &out)?))
+        }
+        CallLine::Refresh { subscriber, timer } => {
+            let gave = pcscf.refresh(subscriber, timer);
+            Ok(Next::Call(answered(CallName::Refresh, gave, |expiry| CallAnswer::Refreshed { expiry })))
+        }
+        CallLine::Deregister { subscriber, mask } => {
+            let gave = pcscf.deregister(subscriber, mask);
+            Ok(Next::Call(answered(CallName::Deregister, gave, |remaining| CallAnswer::Deregistered { remaining })))
+        }
     }
 }
 
@@ -95,12 +90,9 @@ pub fn turn(
 ) -> Result<Next, AllocError>
     ensures { IfOk result (λ n. Shows n (turn_of window.old (state_in pcscf.old) number (line_of line.now)).text × (window.new ≡ (turn_of window.old (state_in pcscf.old) number (line_of line.now)).window) × (state_in pcscf.new ≡ (turn_of window.old (state_in pcscf.old) number (line_of line.now)).state)) }
 {
-    match calls::read_line(heap, line) {
-        Ok(Line::Packets(line)) => match perform(heap, line, window)? {
-            Some(text) => Ok(Next::Say(text)),
-            None => Ok(Next::Silent),
-        },
+    match read_line(heap, line) {
+        Ok(Line::Packets(line)) => Ok(Next::Layer(perform(heap, line, window)?)),
         Ok(Line::Call(line)) => call(heap, pcscf, line),
-        Err(refusal) => Ok(Next::Say(unread(heap, number, refusal)?)),
+        Err(refusal) => Ok(Next::Layer(Some(unread(number, refusal)?))),
     }
 }
