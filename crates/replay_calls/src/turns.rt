@@ -31,7 +31,11 @@ fn call(heap: Global, pcscf: &mut Pcscf, line: CallLine<Vec<u8>>) -> Result<Next
             offer,
         } => {
             let gave = pcscf.register(address, subscriber, offer);
-            Ok(Next::Call(answered(CallName::Register, gave, |chosen| CallAnswer::Registered { chosen })))
+            Ok(Next::Call(answered(
+                CallName::Register,
+                gave,
+                |chosen| CallAnswer::Registered { chosen },
+            )))
         }
         CallLine::Challenge {
             subscriber,
@@ -57,8 +61,13 @@ fn call(heap: Global, pcscf: &mut Pcscf, line: CallLine<Vec<u8>>) -> Result<Next
             segment,
             area,
         } => {
-            let gave =
-                pcscf.outcome_within(subscriber, outcome, segment.as_slice(), area, &mut out);
+            let gave = pcscf.outcome_within(
+                subscriber,
+                outcome,
+                segment.as_slice(),
+                area,
+                &mut out,
+            );
             Ok(Next::Call(sent(heap, CallName::Conclude, gave, &out)?))
         }
         CallLine::Send {
@@ -71,11 +80,19 @@ fn call(heap: Global, pcscf: &mut Pcscf, line: CallLine<Vec<u8>>) -> Result<Next
         }
         CallLine::Refresh { subscriber, timer } => {
             let gave = pcscf.refresh(subscriber, timer);
-            Ok(Next::Call(answered(CallName::Refresh, gave, |expiry| CallAnswer::Refreshed { expiry })))
+            Ok(Next::Call(answered(
+                CallName::Refresh,
+                gave,
+                |expiry| CallAnswer::Refreshed { expiry },
+            )))
         }
         CallLine::Deregister { subscriber, mask } => {
             let gave = pcscf.deregister(subscriber, mask);
-            Ok(Next::Call(answered(CallName::Deregister, gave, |remaining| CallAnswer::Deregistered { remaining })))
+            Ok(Next::Call(answered(
+                CallName::Deregister,
+                gave,
+                |remaining| CallAnswer::Deregistered { remaining },
+            )))
         }
     }
 }
