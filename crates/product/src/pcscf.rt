@@ -1,4 +1,5 @@
-// The proxy over the product's algorithms. Each call is the proxy's, which docs/machine.md describes.
+// The proxy over the product's algorithms. Each call is the proxy's, which docs/machine.md describes. Each is forwarded, by
+// rule of the project: the algorithms come to a call as a type, and the product's contracts name its own.
 ghost use Rattle.std.specs.Prelude.{◌≡◌, ◌≤◌, length, take, IfOk};
 ghost use Rattle.product.specs.Product.{macs, state_in};
 ghost use Rattle.proxy.specs.Machine.{answered, arriving, arriving_wide, challenging, concluding, deregistering, leaves, opened, refreshing, registered, sending, ticked};
@@ -14,6 +15,7 @@ use registration::Row;
 
 #[derive(Drop)]
 pub struct Pcscf<'a> {
+    // Its type says that every set stands in the row of its block.
     proxy: Proxy<'a>,
 }
 

@@ -64,6 +64,7 @@ impl Proxy<'_> {
     pub(crate) fn is_taken_for(&self, place: usize) -> bool
         ensures { place < length self.now.rows.now → result ≡ taken_for (pending_pair (row_of (state_of self.now) place).stage) place (state_of self.now) }
     {
+        // A match: with is_some_and and a closure the check does not find the proof alone.
         match self.rows.get(place).and_then(|row| row.pending_pair()) {
             None => false,
             Some((address, port)) => self.is_taken_beside(place, address, port),
