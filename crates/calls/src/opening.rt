@@ -1,6 +1,6 @@
 // What an `open` line asks for.
 
-// The algorithms are numbers as a script gives them, wrong ones too, which the proxy that is opened passes over.
+// The algorithms are numbers as a script gives them, wrong ones too: the proxy's rule is that it serves nobody then.
 #[derive(Clone, Copy)]
 pub struct Opening {
     pub rows: u32,

@@ -1,6 +1,6 @@
 // The line that concludes a registration.
 ghost use Rattle.calls.specs.Lines.{call_by};
-ghost use Rattle.calls.specs.Outcomes.{conclude_as, conclude_by, conclude_line, failure_line, success_line};
+ghost use Rattle.calls.specs.Outcomes.{conclude_as, conclude_by, conclude_line, success_line, told_line};
 ghost use Rattle.script.specs.Fields.{fields_of};
 ghost use Rattle.script.specs.Reads.{Says};
 ghost use Rattle.std.specs.Prelude.{◌≡◌, vec_items};
@@ -10,33 +10,14 @@ use procedure::Outcome;
 use script::{Fields, Refusal};
 use std::alloc::Global;
 
-fn success_line(
-    heap: Global,
-    subscriber: u32,
-    fields: &mut Fields,
-) -> Result<CallLine<Vec<u8>>, Refusal>
-    ensures { Says (call_by vec_items) result (success_line subscriber (fields_of fields.old)) }
-{
-    let timer = fields.read()?;
-    let mask = fields.read()?;
-    let segment = fields.bytes(heap)?;
-    let area = fields.read()?;
-    fields.end()?;
-    Ok(CallLine::Conclude {
-        subscriber,
-        outcome: Outcome::Success { timer, mask },
-        segment,
-        area,
-    })
-}
-
-fn failure_line(
+// The fields after an outcome: the segment that tells the handset of it, and the area.
+fn told_line(
     heap: Global,
     subscriber: u32,
     outcome: Outcome,
     fields: &mut Fields,
 ) -> Result<CallLine<Vec<u8>>, Refusal>
-    ensures { Says (call_by vec_items) result (failure_line subscriber outcome (fields_of fields.old)) }
+    ensures { Says (call_by vec_items) result (told_line subscriber outcome (fields_of fields.old)) }
 {
     let segment = fields.bytes(heap)?;
     let area = fields.read()?;
@@ -47,6 +28,18 @@ fn failure_line(
         segment,
         area,
     })
+}
+
+fn success_line(
+    heap: Global,
+    subscriber: u32,
+    fields: &mut Fields,
+) -> Result<CallLine<Vec<u8>>, Refusal>
+    ensures { Says (call_by vec_items) result (success_line subscriber (fields_of fields.old)) }
+{
+    let timer = fields.read()?;
+    let mask = fields.read()?;
+    told_line(heap, subscriber, Outcome::Success { timer, mask }, fields)
 }
 
 // The outcome that a word names, with its fields. It is no `match` on the word, whose last arm is reached from each letter of
@@ -62,9 +55,9 @@ fn conclude_by(
     if kind == b"success".as_slice() {
         success_line(heap, subscriber, fields)
     } else if kind == b"user-failure".as_slice() {
-        failure_line(heap, subscriber, Outcome::UserFailure, fields)
+        told_line(heap, subscriber, Outcome::UserFailure, fields)
     } else if kind == b"other-failure".as_slice() {
-        failure_line(heap, subscriber, Outcome::OtherFailure, fields)
+        told_line(heap, subscriber, Outcome::OtherFailure, fields)
     } else {
         Err(Refusal::BadLine)
     }
