@@ -1,7 +1,7 @@
 // Reading a line that calls the proxy, and a line of the whole grammar.
 ghost use Rattle.calls.specs.Addresses.{address_of};
 ghost use Rattle.calls.specs.Lines.{arrive_line, called_by, call_by, call_of, challenge_line, deregister_line, last_byte, line_by, line_of, open_line, refresh_line, register_line, send_line, tick_line};
-ghost use Rattle.script.specs.Fields.{fields_of, others};
+ghost use Rattle.script.specs.Fields.{others};
 ghost use Rattle.script.specs.Reads.{Says};
 ghost use Rattle.script.specs.Words.{first_as};
 ghost use Rattle.script.specs.declared.refusal.Refusal.TheVariants.{BadLine};
@@ -20,15 +20,15 @@ use texts::CallName;
 
 // The next field as an address.
 fn address(heap: Global, fields: &mut Fields) -> Result<Address, Refusal>
-    ensures value { Says (λ a. a) result (first_as address_of (fields_of fields.old)) }
-    ensures rest { fields_of fields.new ≡ others (fields_of fields.old) }
+    ensures value { Says (λ a. a) result (first_as address_of fields.old) }
+    ensures rest { fields.new ≡ others fields.old }
 {
     read_address(heap, fields.expected()?)
 }
 
 // The number of 8 bits that ends a line or is left out.
 fn last_byte(fields: &mut Fields) -> Result<Option<u8>, Refusal>
-    ensures { result ≡ ok_or (last_byte (fields_of fields.old)) BadLine }
+    ensures { result ≡ ok_or (last_byte fields.old) BadLine }
 {
     let Some(text) = fields.next() else {
         return Ok(None);
@@ -39,7 +39,7 @@ fn last_byte(fields: &mut Fields) -> Result<Option<u8>, Refusal>
 }
 
 fn open_line(fields: &mut Fields) -> Result<CallLine<Vec<u8>>, Refusal>
-    ensures { Says (call_by vec_items) result (open_line (fields_of fields.old)) }
+    ensures { Says (call_by vec_items) result (open_line fields.old) }
 {
     let rows = fields.read()?;
     let port = fields.read()?;
@@ -54,7 +54,7 @@ fn open_line(fields: &mut Fields) -> Result<CallLine<Vec<u8>>, Refusal>
 }
 
 fn tick_line(fields: &mut Fields) -> Result<CallLine<Vec<u8>>, Refusal>
-    ensures { Says (call_by vec_items) result (tick_line (fields_of fields.old)) }
+    ensures { Says (call_by vec_items) result (tick_line fields.old) }
 {
     let time = fields.read()?;
     fields.end()?;
@@ -62,7 +62,7 @@ fn tick_line(fields: &mut Fields) -> Result<CallLine<Vec<u8>>, Refusal>
 }
 
 fn register_line(heap: Global, fields: &mut Fields) -> Result<CallLine<Vec<u8>>, Refusal>
-    ensures { Says (call_by vec_items) result (register_line (fields_of fields.old)) }
+    ensures { Says (call_by vec_items) result (register_line fields.old) }
 {
     let address = address(heap, fields)?;
     let subscriber = fields.read()?;
@@ -75,7 +75,7 @@ fn register_line(heap: Global, fields: &mut Fields) -> Result<CallLine<Vec<u8>>,
 }
 
 fn challenge_line(heap: Global, fields: &mut Fields) -> Result<CallLine<Vec<u8>>, Refusal>
-    ensures { Says (call_by vec_items) result (challenge_line (fields_of fields.old)) }
+    ensures { Says (call_by vec_items) result (challenge_line fields.old) }
 {
     let subscriber = fields.read()?;
     let ik = fields.ik(heap)?;
@@ -91,7 +91,7 @@ fn challenge_line(heap: Global, fields: &mut Fields) -> Result<CallLine<Vec<u8>>
 }
 
 fn arrive_line(heap: Global, fields: &mut Fields) -> Result<CallLine<Vec<u8>>, Refusal>
-    ensures { Says (call_by vec_items) result (arrive_line (fields_of fields.old)) }
+    ensures { Says (call_by vec_items) result (arrive_line fields.old) }
 {
     let address = address(heap, fields)?;
     let packet = fields.packet(heap)?;
@@ -104,7 +104,7 @@ fn arrive_line(heap: Global, fields: &mut Fields) -> Result<CallLine<Vec<u8>>, R
 }
 
 fn send_line(heap: Global, fields: &mut Fields) -> Result<CallLine<Vec<u8>>, Refusal>
-    ensures { Says (call_by vec_items) result (send_line (fields_of fields.old)) }
+    ensures { Says (call_by vec_items) result (send_line fields.old) }
 {
     let subscriber = fields.read()?;
     let segment = fields.bytes(heap)?;
@@ -118,7 +118,7 @@ fn send_line(heap: Global, fields: &mut Fields) -> Result<CallLine<Vec<u8>>, Ref
 }
 
 fn refresh_line(fields: &mut Fields) -> Result<CallLine<Vec<u8>>, Refusal>
-    ensures { Says (call_by vec_items) result (refresh_line (fields_of fields.old)) }
+    ensures { Says (call_by vec_items) result (refresh_line fields.old) }
 {
     let subscriber = fields.read()?;
     let timer = fields.read()?;
@@ -127,7 +127,7 @@ fn refresh_line(fields: &mut Fields) -> Result<CallLine<Vec<u8>>, Refusal>
 }
 
 fn deregister_line(fields: &mut Fields) -> Result<CallLine<Vec<u8>>, Refusal>
-    ensures { Says (call_by vec_items) result (deregister_line (fields_of fields.old)) }
+    ensures { Says (call_by vec_items) result (deregister_line fields.old) }
 {
     let subscriber = fields.read()?;
     let mask = fields.read()?;
@@ -137,7 +137,7 @@ fn deregister_line(fields: &mut Fields) -> Result<CallLine<Vec<u8>>, Refusal>
 
 // The fields of a call.
 fn call_by(heap: Global, call: CallName, fields: &mut Fields) -> Result<CallLine<Vec<u8>>, Refusal>
-    ensures { Says (call_by vec_items) result (called_by call (fields_of fields.old)) }
+    ensures { Says (call_by vec_items) result (called_by call fields.old) }
 {
     match call {
         CallName::Open => open_line(fields),

@@ -1,6 +1,5 @@
 // What a line says of a message of the handset: the last fields of the line.
 ghost use Rattle.calls.specs.Messages.{message_by, message_of, offer_of, opening_of, ordinary_of, response_of};
-ghost use Rattle.script.specs.Fields.{fields_of};
 ghost use Rattle.script.specs.declared.refusal.Refusal.TheVariants.{BadLine};
 ghost use Rattle.std.specs.Option.{ok_or};
 ghost use Rattle.std.specs.Prelude.{◌≡◌};
@@ -10,7 +9,7 @@ use script::{Fields, Refusal};
 
 // The offer that ends a line.
 pub fn read_offer(fields: &mut Fields) -> Result<Offer, Refusal>
-    ensures { result ≡ ok_or (offer_of (fields_of fields.old)) BadLine }
+    ensures { result ≡ ok_or (offer_of fields.old) BadLine }
 {
     let port = fields.read()?;
     let spi = fields.read()?;
@@ -26,7 +25,7 @@ pub fn read_offer(fields: &mut Fields) -> Result<Offer, Refusal>
 }
 
 fn read_opening(fields: &mut Fields) -> Result<Message, Refusal>
-    ensures { result ≡ ok_or (opening_of (fields_of fields.old)) BadLine }
+    ensures { result ≡ ok_or (opening_of fields.old) BadLine }
 {
     let subscriber = fields.read()?;
     let offer = read_offer(fields)?;
@@ -34,14 +33,14 @@ fn read_opening(fields: &mut Fields) -> Result<Message, Refusal>
 }
 
 fn read_response(fields: &mut Fields) -> Result<Message, Refusal>
-    ensures { result ≡ ok_or (response_of (fields_of fields.old)) BadLine }
+    ensures { result ≡ ok_or (response_of fields.old) BadLine }
 {
     let offer = read_offer(fields)?;
     Ok(Message::Response { offer })
 }
 
 fn read_ordinary(fields: &mut Fields) -> Result<Message, Refusal>
-    ensures { result ≡ ok_or (ordinary_of (fields_of fields.old)) BadLine }
+    ensures { result ≡ ok_or (ordinary_of fields.old) BadLine }
 {
     let impu = fields.read()?;
     fields.end()?;
@@ -50,7 +49,7 @@ fn read_ordinary(fields: &mut Fields) -> Result<Message, Refusal>
 
 // The message of a kind that a word names, with its fields.
 fn message_by(kind: &[u8], fields: &mut Fields) -> Result<Message, Refusal>
-    ensures { result ≡ ok_or (message_by kind.now (fields_of fields.old)) BadLine }
+    ensures { result ≡ ok_or (message_by kind.now fields.old) BadLine }
 {
     match kind {
         b"opening" => read_opening(fields),
@@ -63,7 +62,7 @@ fn message_by(kind: &[u8], fields: &mut Fields) -> Result<Message, Refusal>
 // The message that ends a line, its kind first.
 #[tactic(auto, unfolding(crate::specs::Messages::message_of))]
 pub fn read_message(fields: &mut Fields) -> Result<Message, Refusal>
-    ensures { result ≡ ok_or (message_of (fields_of fields.old)) BadLine }
+    ensures { result ≡ ok_or (message_of fields.old) BadLine }
 {
     let kind = fields.expected()?;
     message_by(kind, fields)

@@ -1,7 +1,6 @@
 // The line that concludes a registration.
 ghost use Rattle.calls.specs.Lines.{call_by};
 ghost use Rattle.calls.specs.Outcomes.{conclude_as, conclude_by, conclude_line, success_line, told_line};
-ghost use Rattle.script.specs.Fields.{fields_of};
 ghost use Rattle.script.specs.Reads.{Says};
 ghost use Rattle.std.specs.Prelude.{◌≡◌, vec_items};
 
@@ -17,7 +16,7 @@ fn told_line(
     outcome: Outcome,
     fields: &mut Fields,
 ) -> Result<CallLine<Vec<u8>>, Refusal>
-    ensures { Says (call_by vec_items) result (told_line subscriber outcome (fields_of fields.old)) }
+    ensures { Says (call_by vec_items) result (told_line subscriber outcome fields.old) }
 {
     let segment = fields.bytes(heap)?;
     let area = fields.read()?;
@@ -35,7 +34,7 @@ fn success_line(
     subscriber: u32,
     fields: &mut Fields,
 ) -> Result<CallLine<Vec<u8>>, Refusal>
-    ensures { Says (call_by vec_items) result (success_line subscriber (fields_of fields.old)) }
+    ensures { Says (call_by vec_items) result (success_line subscriber fields.old) }
 {
     let timer = fields.read()?;
     let mask = fields.read()?;
@@ -50,7 +49,7 @@ fn conclude_by(
     kind: &[u8],
     fields: &mut Fields,
 ) -> Result<CallLine<Vec<u8>>, Refusal>
-    ensures { Says (call_by vec_items) result (conclude_by subscriber kind.now (fields_of fields.old)) }
+    ensures { Says (call_by vec_items) result (conclude_by subscriber kind.now fields.old) }
 {
     if kind == b"success".as_slice() {
         success_line(heap, subscriber, fields)
@@ -70,14 +69,14 @@ fn conclude_as(
     subscriber: u32,
     fields: &mut Fields,
 ) -> Result<CallLine<Vec<u8>>, Refusal>
-    ensures { Says (call_by vec_items) result (conclude_as subscriber (fields_of fields.old)) }
+    ensures { Says (call_by vec_items) result (conclude_as subscriber fields.old) }
 {
     let kind = fields.expected()?;
     conclude_by(heap, subscriber, kind, fields)
 }
 
 pub fn conclude_line(heap: Global, fields: &mut Fields) -> Result<CallLine<Vec<u8>>, Refusal>
-    ensures { Says (call_by vec_items) result (conclude_line (fields_of fields.old)) }
+    ensures { Says (call_by vec_items) result (conclude_line fields.old) }
 {
     let subscriber = fields.read()?;
     conclude_as(heap, subscriber, fields)

@@ -1,6 +1,5 @@
 -- A line is cut into fields: the words between its spaces, or the pieces between colons.
 use Rattle.std.specs.Prelude.{ℕ, Bool, true, cond, not, List, [], ◌∷◌, length, Some, None, Option, ◌==◌}
-use Rattle.script.specs.declared.fields.Fields.{Fields}
 use Rattle.script.specs.declared.fields.Separator.{Separator}
 use Rattle.script.specs.declared.fields.Separator.TheVariants.{Colon, Space}
 use Rattle.std.specs.Borrow.{Bor}
@@ -48,10 +47,6 @@ split s text = kept s (pieces (mark_of s) text)
 abbrev pub left : Separator → Option (Bor (List ℕ)) → List (List ℕ)
 left s None = []
 left s (Some t) = split s t.now
-
--- the fields that a reader has yet to give
-abbrev pub fields_of : Fields → List (List ℕ)
-fields_of f = left f.separator f.rest
 
 -- the first of some fields, and the others
 abbrev pub first : List (List ℕ) → Option (List ℕ)

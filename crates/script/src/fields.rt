@@ -1,8 +1,10 @@
 // The fields of a line, one after another.
 ghost use Rattle.std.specs.Prelude.{◌≡◌, ◌<◌, ◌==◌};
-ghost use Rattle.script.specs.Fields.{after, before, fields_of, first, mark_of, others, split, takes};
+ghost use Rattle.script.specs.Fields.{after, before, first, mark_of, others, split, takes};
 ghost use Rattle.std.specs.List.{position};
 ghost use Rattle.std.specs.Option.{option_map};
+
+use std::marker::Model;
 
 // What stands between fields.
 #[derive(Clone, Copy)]
@@ -43,6 +45,16 @@ pub struct Fields<'a> {
     separator: Separator,
 }
 
+// A contract sees the fields that are yet to come.
+impl<'a> Model for Fields<'a> {
+    ghost use Rattle.std.specs.Prelude.{ℕ, List};
+    ghost use Rattle.script.specs.Fields.{left};
+
+    ghost Value = { List (List ℕ) };
+
+    ghost view = { λ f. left f.separator f.rest };
+}
+
 // Where the first `mark` stands.
 fn place(text: &[u8], mark: u8) -> Option<usize>
     ensures { result ≡ position (λ b. b == mark) text.now }
@@ -64,7 +76,7 @@ pub fn cut(text: &[u8], mark: u8) -> (&[u8], Option<&[u8]>)
 
 impl<'a> Fields<'a> {
     pub fn new(text: &'a [u8], separator: Separator) -> Fields<'a>
-        ensures { fields_of result ≡ split separator text.now }
+        ensures { result ≡ split separator text.now }
     {
         Fields {
             rest: Some(text),
@@ -74,8 +86,8 @@ impl<'a> Fields<'a> {
 
     // The next field, if there is one.
     pub fn next(&mut self) -> Option<&'a [u8]>
-        ensures field { option_map (λ y. y.now) result ≡ first (fields_of self.old) }
-        ensures rest { fields_of self.new ≡ others (fields_of self.old) }
+        ensures field { option_map (λ y. y.now) result ≡ first self.old }
+        ensures rest { self.new ≡ others self.old }
     {
         while let Some(text) = self.rest {
             let (field, rest) = cut(text, self.separator.mark());

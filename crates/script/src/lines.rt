@@ -1,5 +1,4 @@
 // Reading a line of a script.
-ghost use Rattle.script.specs.Fields.{fields_of};
 ghost use Rattle.script.specs.Lines.{body_of, call_of, is_comment, line_by, line_of, seal_line, tag_line, unseal_line, window_line};
 ghost use Rattle.script.specs.Reads.{Says};
 ghost use Rattle.std.specs.Prelude.{◌≡◌, vec_items};
@@ -11,7 +10,7 @@ use std::alloc::Global;
 
 #[tactic(auto, unfolding(crate::specs::Lines::tag_line))]
 fn tag_line(heap: Global, fields: &mut Fields) -> Result<Line<Vec<u8>>, Refusal>
-    ensures { Says (line_by vec_items) result (tag_line (fields_of fields.old)) }
+    ensures { Says (line_by vec_items) result (tag_line fields.old) }
 {
     let algorithm = fields.read()?;
     let ik = fields.ik(heap)?;
@@ -26,7 +25,7 @@ fn tag_line(heap: Global, fields: &mut Fields) -> Result<Line<Vec<u8>>, Refusal>
 
 #[tactic(auto, unfolding(crate::specs::Lines::seal_line))]
 fn seal_line(heap: Global, fields: &mut Fields) -> Result<Line<Vec<u8>>, Refusal>
-    ensures { Says (line_by vec_items) result (seal_line (fields_of fields.old)) }
+    ensures { Says (line_by vec_items) result (seal_line fields.old) }
 {
     let to = fields.association(heap)?;
     let counter = fields.read()?;
@@ -43,7 +42,7 @@ fn seal_line(heap: Global, fields: &mut Fields) -> Result<Line<Vec<u8>>, Refusal
 
 #[tactic(auto, unfolding(crate::specs::Lines::window_line))]
 fn window_line(fields: &mut Fields) -> Result<Line<Vec<u8>>, Refusal>
-    ensures { Says (line_by vec_items) result (window_line (fields_of fields.old)) }
+    ensures { Says (line_by vec_items) result (window_line fields.old) }
 {
     fields.end()?;
     Ok(Line::Window)
@@ -51,7 +50,7 @@ fn window_line(fields: &mut Fields) -> Result<Line<Vec<u8>>, Refusal>
 
 #[tactic(auto, unfolding(crate::specs::Lines::unseal_line))]
 fn unseal_line(heap: Global, fields: &mut Fields) -> Result<Line<Vec<u8>>, Refusal>
-    ensures { Says (line_by vec_items) result (unseal_line (fields_of fields.old)) }
+    ensures { Says (line_by vec_items) result (unseal_line fields.old) }
 {
     let from = fields.association(heap)?;
     let packet = fields.packet(heap)?;
@@ -61,7 +60,7 @@ fn unseal_line(heap: Global, fields: &mut Fields) -> Result<Line<Vec<u8>>, Refus
 
 // The call that a first word names, with its fields.
 fn call(heap: Global, name: &[u8], fields: &mut Fields) -> Result<Line<Vec<u8>>, Refusal>
-    ensures { Says (line_by vec_items) result (call_of name.now (fields_of fields.old)) }
+    ensures { Says (line_by vec_items) result (call_of name.now fields.old) }
 {
     match name {
         b"tag" => tag_line(heap, fields),

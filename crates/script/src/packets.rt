@@ -1,5 +1,5 @@
 // Reading a packet of a script.
-ghost use Rattle.script.specs.Fields.{fields_of, others};
+ghost use Rattle.script.specs.Fields.{others};
 ghost use Rattle.script.specs.Packets.{length_of, packet_by, packet_of, sealed_by, segment_of, sequence_of, source_by, source_of};
 ghost use Rattle.script.specs.Reads.{Says};
 ghost use Rattle.script.specs.Words.{first_as};
@@ -26,8 +26,8 @@ fn read_segment(heap: Global, text: &[u8]) -> Result<Vec<u8>, Refusal>
 impl<'a> Fields<'a> {
     // The next field as a sequence number that a packet may carry.
     fn sequence(&mut self) -> Result<u32, Refusal>
-        ensures value { result ≡ ok_or (first_as sequence_of (fields_of self.old)) BadLine }
-        ensures rest { fields_of self.new ≡ others (fields_of self.old) }
+        ensures value { result ≡ ok_or (first_as sequence_of self.old) BadLine }
+        ensures rest { self.new ≡ others self.old }
     {
         match self.read()? {
             0 => Err(Refusal::BadLine),
@@ -37,16 +37,16 @@ impl<'a> Fields<'a> {
 
     // The next field as a segment that can be sealed.
     fn segment(&mut self, heap: Global) -> Result<Vec<u8>, Refusal>
-        ensures value { Says vec_items result (first_as segment_of (fields_of self.old)) }
-        ensures rest { fields_of self.new ≡ others (fields_of self.old) }
+        ensures value { Says vec_items result (first_as segment_of self.old) }
+        ensures rest { self.new ≡ others self.old }
     {
         read_segment(heap, self.expected()?)
     }
 
     // The next field as a packet.
     pub fn packet(&mut self, heap: Global) -> Result<Packet<Vec<u8>>, Refusal>
-        ensures value { Says (packet_by vec_items) result (first_as packet_of (fields_of self.old)) }
-        ensures rest { fields_of self.new ≡ others (fields_of self.old) }
+        ensures value { Says (packet_by vec_items) result (first_as packet_of self.old) }
+        ensures rest { self.new ≡ others self.old }
     {
         read_packet(heap, self.expected()?)
     }
@@ -54,7 +54,7 @@ impl<'a> Fields<'a> {
 
 // What is to be sealed.
 fn read_sealed(heap: Global, fields: &mut Fields) -> Result<Source<Vec<u8>>, Refusal>
-    ensures { Says (source_by vec_items) result (sealed_by (fields_of fields.old)) }
+    ensures { Says (source_by vec_items) result (sealed_by fields.old) }
 {
     let to = fields.association(heap)?;
     let number = fields.sequence()?;

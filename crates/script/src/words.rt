@@ -1,5 +1,5 @@
 // Fields by their kinds.
-ghost use Rattle.script.specs.Fields.{fields_of, first, others};
+ghost use Rattle.script.specs.Fields.{first, others};
 ghost use Rattle.script.specs.Hex.{bytes_of};
 ghost use Rattle.script.specs.Reads.{Says};
 ghost use Rattle.script.specs.Words.{algorithm_of, association_of, first_as, ik_of, no_more, number16, number32, number8};
@@ -74,31 +74,31 @@ pub fn read_ik(heap: Global, text: &[u8]) -> Result<Ik, Refusal>
 impl<'a> Fields<'a> {
     // The next field, where one has to follow.
     pub fn expected(&mut self) -> Result<&'a [u8], Refusal>
-        ensures field { result_map_both (λ y. y.now) (λ e. e) result ≡ ok_or (first (fields_of self.old)) BadLine }
-        ensures rest { fields_of self.new ≡ others (fields_of self.old) }
+        ensures field { result_map_both (λ y. y.now) (λ e. e) result ≡ ok_or (first self.old) BadLine }
+        ensures rest { self.new ≡ others self.old }
     {
         self.next().ok_or(Refusal::BadLine)
     }
 
     // The next field as an `F`.
     pub fn read<F: Field>(&mut self) -> Result<F, Refusal>
-        ensures value { result ≡ ok_or (first_as F.Field.read (fields_of self.old)) BadLine }
-        ensures rest { fields_of self.new ≡ others (fields_of self.old) }
+        ensures value { result ≡ ok_or (first_as F.Field.read self.old) BadLine }
+        ensures rest { self.new ≡ others self.old }
     {
         F::read(self.expected()?).ok_or(Refusal::BadLine)
     }
 
     // The next field as an IK.
     pub fn ik(&mut self, heap: Global) -> Result<Ik, Refusal>
-        ensures value { Says (λ ik. ik) result (first_as ik_of (fields_of self.old)) }
-        ensures rest { fields_of self.new ≡ others (fields_of self.old) }
+        ensures value { Says (λ ik. ik) result (first_as ik_of self.old) }
+        ensures rest { self.new ≡ others self.old }
     {
         read_ik(heap, self.expected()?)
     }
 
     // The next three fields as an association.
     pub fn association(&mut self, heap: Global) -> Result<Association, Refusal>
-        ensures { Says (λ a. (a, fields_of self.new)) result (association_of (fields_of self.old)) }
+        ensures { Says (λ a. (a, self.new)) result (association_of self.old) }
     {
         let algorithm = self.read()?;
         let ik = self.ik(heap)?;
@@ -108,15 +108,15 @@ impl<'a> Fields<'a> {
 
     // The next field as bytes.
     pub fn bytes(&mut self, heap: Global) -> Result<Vec<u8>, Refusal>
-        ensures value { Says vec_items result (first_as bytes_of (fields_of self.old)) }
-        ensures rest { fields_of self.new ≡ others (fields_of self.old) }
+        ensures value { Says vec_items result (first_as bytes_of self.old) }
+        ensures rest { self.new ≡ others self.old }
     {
         read_bytes(heap, self.expected()?)
     }
 
     // That no field is left.
     pub fn end(&mut self) -> Result<(), Refusal>
-        ensures { result ≡ ok_or (no_more (fields_of self.old)) BadLine }
+        ensures { result ≡ ok_or (no_more self.old) BadLine }
     {
         match self.next() {
             None => Ok(()),
