@@ -1,11 +1,12 @@
 // Addresses in a script.
 ghost use Rattle.calls.specs.Addresses.{address_by, address_of};
+ghost use Rattle.script.specs.Fields.{others};
 ghost use Rattle.script.specs.Reads.{Says};
+ghost use Rattle.script.specs.Words.{first_as};
 ghost use Rattle.std.specs.Prelude.{◌≡◌};
 
 use association::Address;
-use script::{Refusal, read_bytes};
-use std::alloc::Global;
+use script::{Fields, Refusal};
 
 // The address that 16 bytes write: the high 64 bits and then the low, of each the highest byte first.
 #[tactic(auto, using(crate::proofs::Halves::half_is))]
@@ -20,10 +21,11 @@ fn address_by(bytes: &[u8]) -> Option<Address>
     Some((high, low))
 }
 
-// The address that 32 digits write.
-pub fn read_address(heap: Global, text: &[u8]) -> Result<Address, Refusal>
-    ensures { Says (λ a. a) result (address_of text.now) }
+// The next field as an address: the 32 digits that write it.
+pub fn read_address(fields: &mut Fields) -> Result<Address, Refusal>
+    ensures value { Says (λ a. a) result (first_as address_of fields.old) }
+    ensures rest { fields.new ≡ others fields.old }
 {
-    let bytes = read_bytes(heap, text)?;
+    let bytes = fields.bytes()?;
     address_by(bytes.as_slice()).ok_or(Refusal::BadLine)
 }

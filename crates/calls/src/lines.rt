@@ -1,5 +1,4 @@
 // Reading a line that calls the proxy, and a line of the whole grammar.
-ghost use Rattle.calls.specs.Addresses.{address_of};
 ghost use Rattle.calls.specs.Lines.{arrive_line, called_by, call_by, call_of, challenge_line, deregister_line, last_byte, line_by, line_of, open_line, refresh_line, register_line, send_line, tick_line};
 ghost use Rattle.script.specs.Fields.{others};
 ghost use Rattle.script.specs.Reads.{Says};
@@ -13,18 +12,9 @@ use crate::line::{CallLine, Line};
 use crate::messages::{read_message, read_offer};
 use crate::opening::Opening;
 use crate::outcomes::conclude_line;
-use association::Address;
 use script::{Field, Fields, Refusal, Separator, body};
 use std::alloc::Global;
 use texts::CallName;
-
-// The next field as an address.
-fn address(heap: Global, fields: &mut Fields) -> Result<Address, Refusal>
-    ensures value { Says (λ a. a) result (first_as address_of fields.old) }
-    ensures rest { fields.new ≡ others fields.old }
-{
-    read_address(heap, fields.expected()?)
-}
 
 // The number of 8 bits that ends a line or is left out.
 fn last_byte(fields: &mut Fields) -> Result<Option<u8>, Refusal>
@@ -61,10 +51,10 @@ fn tick_line(fields: &mut Fields) -> Result<CallLine<Vec<u8>>, Refusal>
     Ok(CallLine::Tick { time })
 }
 
-fn register_line(heap: Global, fields: &mut Fields) -> Result<CallLine<Vec<u8>>, Refusal>
+fn register_line(fields: &mut Fields) -> Result<CallLine<Vec<u8>>, Refusal>
     ensures { Says (call_by vec_items) result (register_line fields.old) }
 {
-    let address = address(heap, fields)?;
+    let address = read_address(fields)?;
     let subscriber = fields.read()?;
     let offer = read_offer(fields)?;
     Ok(CallLine::Register {
@@ -74,12 +64,12 @@ fn register_line(heap: Global, fields: &mut Fields) -> Result<CallLine<Vec<u8>>,
     })
 }
 
-fn challenge_line(heap: Global, fields: &mut Fields) -> Result<CallLine<Vec<u8>>, Refusal>
+fn challenge_line(fields: &mut Fields) -> Result<CallLine<Vec<u8>>, Refusal>
     ensures { Says (call_by vec_items) result (challenge_line fields.old) }
 {
     let subscriber = fields.read()?;
-    let ik = fields.ik(heap)?;
-    let segment = fields.bytes(heap)?;
+    let ik = fields.ik()?;
+    let segment = fields.bytes()?;
     let area = fields.read()?;
     fields.end()?;
     Ok(CallLine::Challenge {
@@ -90,11 +80,11 @@ fn challenge_line(heap: Global, fields: &mut Fields) -> Result<CallLine<Vec<u8>>
     })
 }
 
-fn arrive_line(heap: Global, fields: &mut Fields) -> Result<CallLine<Vec<u8>>, Refusal>
+fn arrive_line(fields: &mut Fields) -> Result<CallLine<Vec<u8>>, Refusal>
     ensures { Says (call_by vec_items) result (arrive_line fields.old) }
 {
-    let address = address(heap, fields)?;
-    let packet = fields.packet(heap)?;
+    let address = read_address(fields)?;
+    let packet = fields.packet()?;
     let message = read_message(fields)?;
     Ok(CallLine::Arrive {
         address,
@@ -103,11 +93,11 @@ fn arrive_line(heap: Global, fields: &mut Fields) -> Result<CallLine<Vec<u8>>, R
     })
 }
 
-fn send_line(heap: Global, fields: &mut Fields) -> Result<CallLine<Vec<u8>>, Refusal>
+fn send_line(fields: &mut Fields) -> Result<CallLine<Vec<u8>>, Refusal>
     ensures { Says (call_by vec_items) result (send_line fields.old) }
 {
     let subscriber = fields.read()?;
-    let segment = fields.bytes(heap)?;
+    let segment = fields.bytes()?;
     let area = fields.read()?;
     fields.end()?;
     Ok(CallLine::Send {
@@ -136,17 +126,17 @@ fn deregister_line(fields: &mut Fields) -> Result<CallLine<Vec<u8>>, Refusal>
 }
 
 // The fields of a call.
-fn call_by(heap: Global, call: CallName, fields: &mut Fields) -> Result<CallLine<Vec<u8>>, Refusal>
+fn call_by(call: CallName, fields: &mut Fields) -> Result<CallLine<Vec<u8>>, Refusal>
     ensures { Says (call_by vec_items) result (called_by call fields.old) }
 {
     match call {
         CallName::Open => open_line(fields),
         CallName::Tick => tick_line(fields),
-        CallName::Register => register_line(heap, fields),
-        CallName::Challenge => challenge_line(heap, fields),
-        CallName::Arrive => arrive_line(heap, fields),
-        CallName::Conclude => conclude_line(heap, fields),
-        CallName::Send => send_line(heap, fields),
+        CallName::Register => register_line(fields),
+        CallName::Challenge => challenge_line(fields),
+        CallName::Arrive => arrive_line(fields),
+        CallName::Conclude => conclude_line(fields),
+        CallName::Send => send_line(fields),
         CallName::Refresh => refresh_line(fields),
         CallName::Deregister => deregister_line(fields),
     }
@@ -157,9 +147,9 @@ fn call_by(heap: Global, call: CallName, fields: &mut Fields) -> Result<CallLine
 fn read_call(heap: Global, line: &[u8]) -> Result<CallLine<Vec<u8>>, Refusal>
     ensures { Says (call_by vec_items) result (call_of line.now) }
 {
-    let mut fields = Fields::new(body(line), Separator::Space);
+    let mut fields = Fields::new(heap, body(line), Separator::Space);
     let call = fields.read()?;
-    call_by(heap, call, &mut fields)
+    call_by(call, &mut fields)
 }
 
 // A line of a script: what is not of the packet layer's grammar calls the proxy or is no line.

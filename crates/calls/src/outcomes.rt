@@ -11,14 +11,13 @@ use std::alloc::Global;
 
 // The fields after an outcome: the segment that tells the handset of it, and the area.
 fn told_line(
-    heap: Global,
     subscriber: u32,
     outcome: Outcome,
     fields: &mut Fields,
 ) -> Result<CallLine<Vec<u8>>, Refusal>
     ensures { Says (call_by vec_items) result (told_line subscriber outcome fields.old) }
 {
-    let segment = fields.bytes(heap)?;
+    let segment = fields.bytes()?;
     let area = fields.read()?;
     fields.end()?;
     Ok(CallLine::Conclude {
@@ -29,22 +28,17 @@ fn told_line(
     })
 }
 
-fn success_line(
-    heap: Global,
-    subscriber: u32,
-    fields: &mut Fields,
-) -> Result<CallLine<Vec<u8>>, Refusal>
+fn success_line(subscriber: u32, fields: &mut Fields) -> Result<CallLine<Vec<u8>>, Refusal>
     ensures { Says (call_by vec_items) result (success_line subscriber fields.old) }
 {
     let timer = fields.read()?;
     let mask = fields.read()?;
-    told_line(heap, subscriber, Outcome::Success { timer, mask }, fields)
+    told_line(subscriber, Outcome::Success { timer, mask }, fields)
 }
 
 // The outcome that a word names, with its fields. It is no `match` on the word, whose last arm is reached from each letter of
 // the three: the goal of that arm does not close.
 fn conclude_by(
-    heap: Global,
     subscriber: u32,
     kind: &[u8],
     fields: &mut Fields,
@@ -52,11 +46,11 @@ fn conclude_by(
     ensures { Says (call_by vec_items) result (conclude_by subscriber kind.now fields.old) }
 {
     if kind == b"success".as_slice() {
-        success_line(heap, subscriber, fields)
+        success_line(subscriber, fields)
     } else if kind == b"user-failure".as_slice() {
-        told_line(heap, subscriber, Outcome::UserFailure, fields)
+        told_line(subscriber, Outcome::UserFailure, fields)
     } else if kind == b"other-failure".as_slice() {
-        told_line(heap, subscriber, Outcome::OtherFailure, fields)
+        told_line(subscriber, Outcome::OtherFailure, fields)
     } else {
         Err(Refusal::BadLine)
     }
@@ -64,20 +58,16 @@ fn conclude_by(
 
 // The outcome that ends a line, its kind first.
 #[tactic(auto, unfolding(crate::specs::Outcomes::conclude_as))]
-fn conclude_as(
-    heap: Global,
-    subscriber: u32,
-    fields: &mut Fields,
-) -> Result<CallLine<Vec<u8>>, Refusal>
+fn conclude_as(subscriber: u32, fields: &mut Fields) -> Result<CallLine<Vec<u8>>, Refusal>
     ensures { Says (call_by vec_items) result (conclude_as subscriber fields.old) }
 {
     let kind = fields.expected()?;
-    conclude_by(heap, subscriber, kind, fields)
+    conclude_by(subscriber, kind, fields)
 }
 
-pub fn conclude_line(heap: Global, fields: &mut Fields) -> Result<CallLine<Vec<u8>>, Refusal>
+pub fn conclude_line(fields: &mut Fields) -> Result<CallLine<Vec<u8>>, Refusal>
     ensures { Says (call_by vec_items) result (conclude_line fields.old) }
 {
     let subscriber = fields.read()?;
-    conclude_as(heap, subscriber, fields)
+    conclude_as(subscriber, fields)
 }

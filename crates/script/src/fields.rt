@@ -4,6 +4,7 @@ ghost use Rattle.script.specs.Fields.{after, before, first, mark_of, others, spl
 ghost use Rattle.std.specs.List.{position};
 ghost use Rattle.std.specs.Option.{option_map};
 
+use std::alloc::Global;
 use std::marker::Model;
 
 // What stands between fields.
@@ -43,6 +44,8 @@ pub struct Fields<'a> {
     // What is left, if the text did not end.
     rest: Option<&'a [u8]>,
     separator: Separator,
+    // Where what is read is kept.
+    pub(crate) heap: Global,
 }
 
 // A contract sees the fields that are yet to come.
@@ -75,12 +78,13 @@ pub fn cut(text: &[u8], mark: u8) -> (&[u8], Option<&[u8]>)
 }
 
 impl<'a> Fields<'a> {
-    pub fn new(text: &'a [u8], separator: Separator) -> Fields<'a>
+    pub fn new(heap: Global, text: &'a [u8], separator: Separator) -> Fields<'a>
         ensures { result ≡ split separator text.now }
     {
         Fields {
             rest: Some(text),
             separator,
+            heap,
         }
     }
 

@@ -9,12 +9,12 @@ use crate::refusal::Refusal;
 use std::alloc::Global;
 
 #[tactic(auto, unfolding(crate::specs::Lines::tag_line))]
-fn tag_line(heap: Global, fields: &mut Fields) -> Result<Line<Vec<u8>>, Refusal>
+fn tag_line(fields: &mut Fields) -> Result<Line<Vec<u8>>, Refusal>
     ensures { Says (line_by vec_items) result (tag_line fields.old) }
 {
     let algorithm = fields.read()?;
-    let ik = fields.ik(heap)?;
-    let text = fields.bytes(heap)?;
+    let ik = fields.ik()?;
+    let text = fields.bytes()?;
     fields.end()?;
     Ok(Line::Tag {
         algorithm,
@@ -24,12 +24,12 @@ fn tag_line(heap: Global, fields: &mut Fields) -> Result<Line<Vec<u8>>, Refusal>
 }
 
 #[tactic(auto, unfolding(crate::specs::Lines::seal_line))]
-fn seal_line(heap: Global, fields: &mut Fields) -> Result<Line<Vec<u8>>, Refusal>
+fn seal_line(fields: &mut Fields) -> Result<Line<Vec<u8>>, Refusal>
     ensures { Says (line_by vec_items) result (seal_line fields.old) }
 {
-    let to = fields.association(heap)?;
+    let to = fields.association()?;
     let counter = fields.read()?;
-    let segment = fields.bytes(heap)?;
+    let segment = fields.bytes()?;
     let area = fields.read()?;
     fields.end()?;
     Ok(Line::Seal {
@@ -49,24 +49,24 @@ fn window_line(fields: &mut Fields) -> Result<Line<Vec<u8>>, Refusal>
 }
 
 #[tactic(auto, unfolding(crate::specs::Lines::unseal_line))]
-fn unseal_line(heap: Global, fields: &mut Fields) -> Result<Line<Vec<u8>>, Refusal>
+fn unseal_line(fields: &mut Fields) -> Result<Line<Vec<u8>>, Refusal>
     ensures { Says (line_by vec_items) result (unseal_line fields.old) }
 {
-    let from = fields.association(heap)?;
-    let packet = fields.packet(heap)?;
+    let from = fields.association()?;
+    let packet = fields.packet()?;
     fields.end()?;
     Ok(Line::Unseal { from, packet })
 }
 
 // The call that a first word names, with its fields.
-fn call(heap: Global, name: &[u8], fields: &mut Fields) -> Result<Line<Vec<u8>>, Refusal>
+fn call(name: &[u8], fields: &mut Fields) -> Result<Line<Vec<u8>>, Refusal>
     ensures { Says (line_by vec_items) result (call_of name.now fields.old) }
 {
     match name {
-        b"tag" => tag_line(heap, fields),
-        b"seal" => seal_line(heap, fields),
+        b"tag" => tag_line(fields),
+        b"seal" => seal_line(fields),
         b"window" => window_line(fields),
-        b"unseal" => unseal_line(heap, fields),
+        b"unseal" => unseal_line(fields),
         _ => Err(Refusal::BadLine),
     }
 }
@@ -97,9 +97,9 @@ pub fn read_line(heap: Global, line: &[u8]) -> Result<Line<Vec<u8>>, Refusal>
     if is_comment(text) {
         return Ok(Line::Skipped);
     }
-    let mut fields = Fields::new(text, Separator::Space);
+    let mut fields = Fields::new(heap, text, Separator::Space);
     match fields.next() {
         None => Ok(Line::Skipped),
-        Some(name) => call(heap, name, &mut fields),
+        Some(name) => call(name, &mut fields),
     }
 }

@@ -36,29 +36,29 @@ impl<'a> Fields<'a> {
     }
 
     // The next field as a segment that can be sealed.
-    fn segment(&mut self, heap: Global) -> Result<Vec<u8>, Refusal>
+    fn segment(&mut self) -> Result<Vec<u8>, Refusal>
         ensures value { Says vec_items result (first_as segment_of self.old) }
         ensures rest { self.new ≡ others self.old }
     {
-        read_segment(heap, self.expected()?)
+        read_segment(self.heap, self.expected()?)
     }
 
     // The next field as a packet.
-    pub fn packet(&mut self, heap: Global) -> Result<Packet<Vec<u8>>, Refusal>
+    pub fn packet(&mut self) -> Result<Packet<Vec<u8>>, Refusal>
         ensures value { Says (packet_by vec_items) result (first_as packet_of self.old) }
         ensures rest { self.new ≡ others self.old }
     {
-        read_packet(heap, self.expected()?)
+        read_packet(self.heap, self.expected()?)
     }
 }
 
 // What is to be sealed.
-fn read_sealed(heap: Global, fields: &mut Fields) -> Result<Source<Vec<u8>>, Refusal>
+fn read_sealed(fields: &mut Fields) -> Result<Source<Vec<u8>>, Refusal>
     ensures { Says (source_by vec_items) result (sealed_by fields.old) }
 {
-    let to = fields.association(heap)?;
+    let to = fields.association()?;
     let number = fields.sequence()?;
-    let segment = fields.segment(heap)?;
+    let segment = fields.segment()?;
     fields.end()?;
     Ok(Source::Sealed {
         to,
@@ -73,7 +73,7 @@ fn read_source(heap: Global, text: &[u8]) -> Result<Source<Vec<u8>>, Refusal>
     ensures { Says (source_by vec_items) result (source_of text.now) }
 {
     match cut(text, b':') {
-        (b"seal", Some(rest)) => read_sealed(heap, &mut Fields::new(rest, Separator::Colon)),
+        (b"seal", Some(rest)) => read_sealed(&mut Fields::new(heap, rest, Separator::Colon)),
         (b"seal", None) => Err(Refusal::BadLine),
         _ => Ok(Source::Bytes(read_bytes(heap, text)?)),
     }

@@ -89,29 +89,29 @@ impl<'a> Fields<'a> {
     }
 
     // The next field as an IK.
-    pub fn ik(&mut self, heap: Global) -> Result<Ik, Refusal>
+    pub fn ik(&mut self) -> Result<Ik, Refusal>
         ensures value { Says (λ ik. ik) result (first_as ik_of self.old) }
         ensures rest { self.new ≡ others self.old }
     {
-        read_ik(heap, self.expected()?)
+        read_ik(self.heap, self.expected()?)
     }
 
     // The next three fields as an association.
-    pub fn association(&mut self, heap: Global) -> Result<Association, Refusal>
+    pub fn association(&mut self) -> Result<Association, Refusal>
         ensures { Says (λ a. (a, self.new)) result (association_of self.old) }
     {
         let algorithm = self.read()?;
-        let ik = self.ik(heap)?;
+        let ik = self.ik()?;
         let spi = self.read()?;
         Ok(Association { algorithm, ik, spi })
     }
 
     // The next field as bytes.
-    pub fn bytes(&mut self, heap: Global) -> Result<Vec<u8>, Refusal>
+    pub fn bytes(&mut self) -> Result<Vec<u8>, Refusal>
         ensures value { Says vec_items result (first_as bytes_of self.old) }
         ensures rest { self.new ≡ others self.old }
     {
-        read_bytes(heap, self.expected()?)
+        read_bytes(self.heap, self.expected()?)
     }
 
     // That no field is left.
