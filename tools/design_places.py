@@ -32,7 +32,10 @@ ROWS = [
     ("5", "two type parameters that travel together", r"First: Integrity, Second: Integrity"),
     ("5", "algorithm, key and SPI beside each other", r"algorithm: Algorithm,\s+ik: (&Ik|Ik),\s+spi: u32,"),
     ("5", "service, subscriber, taken and address beside each other", r"service: Service,\s+subscriber: u16,\s+taken: bool,\s+address: Address,"),
-    ("5", "the clause `rest` of a field's reader", r"ensures rest \{ fields_of (self|fields)\.new"),
+    ("5", "a reader seen as the list of its fields", r"fields_of (self|fields)\.(old|new)"),
+    ("5", "the heap handed on beside the fields", r"heap: Global,\s*([^(){}]*,\s*)?fields: &mut Fields|&mut self, heap: Global"),
+    ("5", "a segment and the area that it goes into", r"segment: &\[u8\],\s+(area: u32,\s+)?out: &mut \["),
+    ("5", "a right length asked of the packet's reader", r"saturating_sub\(TA(G_LEN|IL)\)|byte_at\(b, "),
     ("6", "a fixed buffer with a count beside it", r"= \[0; LONGEST_PACKET\];"),
     ("6", "an area by its length beside a fixed buffer", r"area: u32,\s+out: &mut \[u8; 1424\]"),
     ("7", "a chain of tests of a word", r"(?<!else )if is_text\("),
@@ -65,10 +68,26 @@ def main():
             for found in re.finditer(pattern, text, re.MULTILINE):
                 line = text.count("\n", 0, found.start()) + 1
                 places.append(f"{name}:{line}")
-        print(f"{point}  {len(places):3}  {what}")
-        if "--list" in sys.argv:
-            for place in places:
-                print(f"          {place}")
+        tell(point, what, places)
+    tell("2", "functions of one name in the two programs that answer scripts", in_both(files))
+
+
+def in_both(files):
+    """The functions that stand under one name in both programs that answer scripts, `main` left out."""
+    named = {}
+    for name, text in files:
+        program = name.split("/")[1]
+        if program in ("replay", "replay_calls"):
+            for found in re.finditer(r"^(?:pub )?fn (\w+)", text, re.MULTILINE):
+                named.setdefault(found[1], {}).setdefault(program, name)
+    return [f"{there['replay']} {word}" for word, there in sorted(named.items()) if len(there) == 2 and word != "main"]
+
+
+def tell(point, what, places):
+    print(f"{point}  {len(places):3}  {what}")
+    if "--list" in sys.argv:
+        for place in places:
+            print(f"          {place}")
 
 
 main()

@@ -1,4 +1,7 @@
 // What a set seals and opens, and what it is known by.
+//
+// A segment and the area that it goes into stay two parameters: the host lends both, and what a call leaves is said of the
+// area alone.
 ghost use Rattle.association.specs.Asked.{fresh, own_is, pair_is, spi_is};
 ghost use Rattle.association.specs.Opening.{opened_by, seen};
 ghost use Rattle.association.specs.Sealing.{leaves, sealed_by};

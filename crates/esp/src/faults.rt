@@ -23,7 +23,7 @@ pub enum Fault {
 }
 
 impl Fault {
-    // The number that the fault is known by.
+    // The number that the fault is known by. A variant with data has no discriminant to read, so there is a table.
     pub fn number(&self) -> u8
         ensures { result ≡ number_of self.now }
     {

@@ -1,4 +1,7 @@
 // Sealing a segment into a packet.
+//
+// A segment and the area that it goes into stay two parameters: the host lends both, and what a call leaves is said of the
+// area alone.
 ghost use Rattle.std.specs.Prelude.{◌≡◌, ◌+◌, ◌<◌, ◌≤◌, ◌++◌, length, take, drop, IfOk};
 ghost use Rattle.esp.specs.Figures.{PacketFigures};
 ghost use Rattle.esp.specs.Opening.{OpensAs};

@@ -1,4 +1,7 @@
 // The packet layer over two algorithms, of which an association's number says which one it is under.
+//
+// A segment and the area that it goes into stay two parameters: the host lends both, and what a call leaves is said of the
+// area alone.
 ghost use Rattle.esp.specs.Opening.{opening, shown};
 ghost use Rattle.esp.specs.Sealing.{laid, sealing};
 ghost use Rattle.integrity.specs.Algorithms.{Macs, mac_by};
@@ -49,6 +52,7 @@ pub trait Suite {
     ghost twelve: { (a : Algorithm) (ik text : List ℕ) → length (mac_by macs a ik text) ≡ 12 };
 }
 
+// A number picks one of two types, and no value can name a type: so each of the three has its own `match`.
 impl<First: Integrity, Second: Integrity> Suite for (First, Second) {
     ghost macs = { record { one = First.Integrity.mac; two = Second.Integrity.mac } };
 

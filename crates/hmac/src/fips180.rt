@@ -116,6 +116,7 @@ fn compress(hash: Working, block: &[u8; 64]) -> Working
         mut d,
         mut e,
     } = hash;
+    // A round's function and constant go by its number t.
     for (t, word) in w.iter().enumerate() {
         let next = a
             .rotate_left(5)

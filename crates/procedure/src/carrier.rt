@@ -4,6 +4,7 @@ ghost use Rattle.std.specs.Prelude.{◌≡◌};
 
 use slots::{Cover, Slot};
 
+// Three ways with numbers of their own, and nothing sent is one of them: no `Option` of two.
 #[derive(Clone, Copy, PartialEq, Eq, Debug)]
 pub enum Carrier {
     // 0: in clear.
@@ -15,6 +16,7 @@ pub enum Carrier {
 }
 
 impl Carrier {
+    // A variant with data has no discriminant to read, so the numbers stand in a table.
     pub fn number(self) -> u8
         ensures { result ≡ carrier_number self }
     {

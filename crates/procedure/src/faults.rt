@@ -48,7 +48,7 @@ impl From<esp::Fault> for Fault {
 }
 
 impl Fault {
-    // The number that the fault is known by.
+    // The number that the fault is known by. A variant with data has no discriminant to read, so there is a table.
     pub fn number(&self) -> u8
         ensures { result ≡ number_of self.now }
     {

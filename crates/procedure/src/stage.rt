@@ -19,6 +19,7 @@ pub struct Procedure {
     pub cover: Cover,
 }
 
+// Four stages with numbers of their own, and none is one of them: no `Option` of three.
 #[derive(Clone, Copy, PartialEq, Eq, Debug)]
 pub enum Stage {
     // 0: no procedure runs.
@@ -49,6 +50,7 @@ impl Phase {
 }
 
 impl Stage {
+    // A table, as no derive drops what the variants hold.
     pub fn phase(&self) -> Phase
         ensures { result ≡ phase_of self.now }
     {

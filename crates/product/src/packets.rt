@@ -1,4 +1,7 @@
 // The packet layer over the product's algorithms.
+//
+// A segment and the area that it goes into stay two parameters: the host lends both, and what a call leaves is said of the
+// area alone.
 ghost use Rattle.esp.specs.Opening.{opening, shown};
 ghost use Rattle.esp.specs.Sealing.{laid, sealing};
 ghost use Rattle.integrity.specs.Algorithms.{mac_by};

@@ -1,5 +1,8 @@
 // The proxy over the product's algorithms. Each call is the proxy's, which docs/machine.md describes. Each is forwarded, by
 // rule of the project: the algorithms come to a call as a type, and the product's contracts name its own.
+//
+// A segment and the area that it goes into stay two parameters: the host lends both, and what a call leaves is said of the
+// area alone.
 ghost use Rattle.std.specs.Prelude.{◌≡◌, ◌≤◌, length, take, IfOk};
 ghost use Rattle.product.specs.Product.{macs, state_in};
 ghost use Rattle.proxy.specs.Machine.{answered, arriving, arriving_wide, challenging, concluding, deregistering, leaves, opened, refreshing, registered, sending, ticked};

@@ -1,5 +1,8 @@
 // The calls. That the rows stay the same loan stands in each (`stays`): a type says what holds at one time, and not what
 // stays from before a call to after it.
+//
+// A segment and the area that it goes into stay two parameters: the host lends both, and what a call leaves is said of the
+// area alone.
 ghost use Rattle.proxy.specs.Machine.{arriving, arriving_wide, challenging, concluding, deregistering, leaves, refreshing, registered, sending, ticked};
 ghost use Rattle.proxy.specs.Stated.{state_of};
 ghost use Rattle.registration.specs.Receiving.{heard_of};

@@ -11,6 +11,6 @@ pub struct Origin {
     // The handset's address.
     pub address: Address,
     // The one bit that a call learns of the rest of the table: whether a set has this address and the port that an
-    // opening REGISTER offers.
+    // opening REGISTER offers. A bit and no more, as no subscriber's call may tell of another subscriber.
     pub taken: bool,
 }

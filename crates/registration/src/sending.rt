@@ -1,4 +1,7 @@
 // The calls that send, on one row.
+//
+// A segment and the area that it goes into stay two parameters: the host lends both, and what a call leaves is said of the
+// area alone.
 ghost use Rattle.std.specs.Prelude.{◌≡◌, ◌≤◌, length};
 ghost use Rattle.esp.specs.Sealing.{laid};
 ghost use Rattle.registration.specs.Emitting.{copied, copy_leaves, emitted, emitted_by, leaves, unsent};

@@ -15,6 +15,7 @@ fn main(rt: HostRuntime) -> io::Result<()> {
     let mut input = BufReader::new(heap, rt.stdin())?;
     let mut line = Vec::new(heap);
     let mut window = ReplayWindow::new();
+    // A loop over input is counted, so that it is known to end.
     for number in 1..u64::MAX {
         line.clear();
         if input.read_until(b'\n', &mut line)? == 0 {

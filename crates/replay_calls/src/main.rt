@@ -44,6 +44,7 @@ fn session(
     window: &mut ReplayWindow,
     pcscf: &mut Pcscf,
 ) -> io::Result<Option<Opening>> {
+    // A loop over input is counted, so that it is known to end.
     for _ in 0..u64::MAX {
         if !script.advance()? {
             break;
@@ -73,6 +74,7 @@ fn main(rt: HostRuntime) -> io::Result<()> {
     };
     let mut window = ReplayWindow::new();
     let mut opening = openings::NOBODY;
+    // Counted, as each loop over input.
     for opened in 0..u64::MAX {
         let mut rows = vec![in heap; Row::new(); openings::room(&opening)]?;
         let mut pcscf = openings::open(&opening, rows.as_mut_slice());

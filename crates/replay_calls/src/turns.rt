@@ -18,6 +18,7 @@ use texts::{CallAnswer, CallName};
 fn call(heap: Global, pcscf: &mut Pcscf, line: CallLine<Vec<u8>>) -> Result<Next, AllocError>
     ensures { IfOk result (λ n. Shows n (Some (text_for (call_by vec_items line) (state_in pcscf.old))) × (state_in pcscf.new ≡ state_after (call_by vec_items line) (state_in pcscf.old))) }
 {
+    // One array for the calls that send: the proxy's form of them for a given length takes one of the longest packet.
     let mut out = [0; LONGEST_PACKET];
     match line {
         CallLine::Open(opening) => Ok(Next::Open(opening)),

@@ -3,6 +3,7 @@ use crate::packet::Packet;
 use esp::Association;
 use integrity::{Algorithm, Ik};
 
+// Five kinds of line, and the skipped one is one of them: no `Option` of four.
 #[derive(Drop)]
 pub enum Line<B> {
     // A blank line or a comment.

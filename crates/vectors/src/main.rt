@@ -220,10 +220,10 @@ fn run<D: Digest, E: Example>(
     examples: &[E],
 ) -> io::Result<()> {
     let heap = rt.alloc();
-    for (i, example) in examples.iter().enumerate() {
+    for (number, example) in (1..).zip(examples) {
         let digest = example.digest::<D>(heap)?;
         let found = format!(in heap; "{}", Hex(D::view(&digest)))?;
-        tally.note(rt, name, i + 1, found.as_str(), example.due())?;
+        tally.note(rt, name, number, found.as_str(), example.due())?;
     }
     Ok(())
 }
