@@ -26,8 +26,11 @@ abbrev pub fresh : Parameters → ℕ → Set
 fresh p e = record { parameters = p; expiry = e; sent = 0; window = empty }
 
 -- the two associations of a set: packets to the handset name its own SPI, packets from it the proxy's
+abbrev pub under : ℕ → Parameters → Association
+under spi x = record { algorithm = x.algorithm; ik = x.ik; spi = spi }
+
 abbrev pub outbound : Parameters → Association
-outbound x = record { algorithm = x.algorithm; ik = x.ik; spi = x.spi }
+outbound x = under x.spi x
 
 abbrev pub inbound : Parameters → Association
-inbound x = record { algorithm = x.algorithm; ik = x.ik; spi = x.own_spi }
+inbound x = under x.own_spi x

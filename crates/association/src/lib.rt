@@ -8,7 +8,7 @@ mod ports;
 mod set;
 mod sets;
 
-pub use address::Address;
+pub use address::{Address, Pair};
 pub use faults::Fault;
 pub use ports::{destination_port, source_port};
 pub use set::{Parameters, Set};

@@ -1,5 +1,5 @@
 // A set of associations.
-ghost use Rattle.association.specs.Asked.{inbound, outbound};
+ghost use Rattle.association.specs.Asked.{inbound, outbound, under};
 ghost use Rattle.association.specs.Expiry.{expiry_of, lasting as lasting_to};
 ghost use Rattle.std.specs.Prelude.{◌≡◌};
 ghost use Rattle.std.proofs.Common.{rules};
@@ -23,26 +23,29 @@ pub struct Parameters {
 }
 
 impl Parameters {
-    // The association by which segments go to the handset: its packets name the handset's SPI.
-    pub fn outbound(&self) -> Association
-        ensures { result ≡ outbound self.now }
+    // The association under an SPI.
+    fn under(&self, spi: u32) -> Association
+        ensures { result ≡ under spi self.now }
     {
         Association {
             algorithm: self.algorithm,
             ik: self.ik,
-            spi: self.spi,
+            spi,
         }
+    }
+
+    // The association by which segments go to the handset: its packets name the handset's SPI.
+    pub fn outbound(&self) -> Association
+        ensures { result ≡ outbound self.now }
+    {
+        self.under(self.spi)
     }
 
     // The association by which packets come from the handset: they name the proxy's SPI.
     pub fn inbound(&self) -> Association
         ensures { result ≡ inbound self.now }
     {
-        Association {
-            algorithm: self.algorithm,
-            ik: self.ik,
-            spi: self.own_spi,
-        }
+        self.under(self.own_spi)
     }
 }
 

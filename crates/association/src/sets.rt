@@ -7,7 +7,7 @@ ghost use Rattle.association.specs.Opening.{opened_by, seen};
 ghost use Rattle.association.specs.Sealing.{leaves, sealed_by};
 ghost use Rattle.std.specs.Prelude.{◌≡◌, length};
 
-use crate::address::Address;
+use crate::address::{Address, Pair};
 use crate::faults::Fault;
 use crate::ports::{destination_port, source_port};
 use crate::set::{Parameters, Set};
@@ -28,10 +28,10 @@ impl Set {
     }
 
     // Whether it is a handset's at this address and port.
-    pub fn is_at(&self, address: Address, port: u16) -> bool
-        ensures { result ≡ pair_is address port self.now.parameters }
+    pub fn is_at(&self, pair: Pair) -> bool
+        ensures { result ≡ pair_is pair.address pair.port self.now.parameters }
     {
-        self.parameters.address == address && self.parameters.port == port
+        self.parameters.address == pair.address && self.parameters.port == pair.port
     }
 
     // Whether packets from this address to this SPI are its own.

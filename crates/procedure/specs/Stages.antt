@@ -1,7 +1,9 @@
 -- The stages by name and number.
 use Rattle.std.specs.Prelude.{ℕ}
+use Rattle.association.specs.declared.address.Pair.{Pair}
 use Rattle.procedure.specs.declared.stage.Phase.{Phase}
 use Rattle.procedure.specs.declared.stage.Phase.TheVariants as phase
+use Rattle.procedure.specs.declared.stage.Procedure.{Procedure}
 use Rattle.procedure.specs.declared.stage.Stage.{Stage}
 use Rattle.procedure.specs.declared.stage.Stage.TheVariants as stage
 
@@ -17,3 +19,7 @@ phase_of stage.None = phase.None
 phase_of (stage.Offered p d) = phase.Offered
 phase_of (stage.Challenged p) = phase.Challenged
 phase_of (stage.Answered p) = phase.Answered
+
+-- the address of a procedure and the port of its offer
+abbrev pub pair_of : Procedure → Pair
+pair_of p = record { address = p.address; port = p.offer.port }

@@ -15,7 +15,8 @@ pub enum Message {
     Ordinary { impu: u8 },
 }
 
-// How the core concluded a registration.
+// How the core concluded a registration. Three outcomes, as the core names them: a `Result` would want a second enum for the
+// two failures.
 #[derive(Clone, Copy, PartialEq, Eq, Debug)]
 pub enum Outcome {
     // Registered for so many seconds, with the IMPUs of the mask.

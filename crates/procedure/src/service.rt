@@ -37,10 +37,11 @@ impl Preference {
         ensures { result ≡ listed list.now }
     {
         match list {
-            [1] => Some(Preference::Only(Algorithm::One)),
-            [2] => Some(Preference::Only(Algorithm::Two)),
-            [1, 2] => Some(Preference::Both(Algorithm::One, Algorithm::Two)),
-            [2, 1] => Some(Preference::Both(Algorithm::Two, Algorithm::One)),
+            [a] => Some(Preference::Only(Algorithm::try_from(*a).ok()?)),
+            [a, b] if a != b => Some(Preference::Both(
+                Algorithm::try_from(*a).ok()?,
+                Algorithm::try_from(*b).ok()?,
+            )),
             _ => None,
         }
     }

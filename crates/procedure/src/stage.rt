@@ -1,9 +1,9 @@
 // How far a registration is.
-ghost use Rattle.procedure.specs.Stages.{phase_number, phase_of};
+ghost use Rattle.procedure.specs.Stages.{pair_of, phase_number, phase_of};
 ghost use Rattle.std.specs.Prelude.{◌≡◌};
 
 use crate::offer::Offer;
-use association::Address;
+use association::{Address, Pair};
 use integrity::Algorithm;
 use slots::Cover;
 
@@ -17,6 +17,18 @@ pub struct Procedure {
     pub own_spi: u32,
     // What the REGISTER came under.
     pub cover: Cover,
+}
+
+impl Procedure {
+    // The pair that its set has or will have.
+    pub fn pair(&self) -> Pair
+        ensures { result ≡ pair_of self.now }
+    {
+        Pair {
+            address: self.address,
+            port: self.offer.port,
+        }
+    }
 }
 
 // Four stages with numbers of their own, and none is one of them: no `Option` of three.

@@ -3,6 +3,7 @@ use Rattle.std.specs.Prelude.{ℕ, suc, ◌-◌, ◌/◌, Bool, false, cond, not
 use Rattle.integrity.specs.Algorithms.{Macs}
 use Rattle.association.specs.Asked.{Address, own_is, pair_is}
 use Rattle.association.specs.declared.faults.Fault.TheVariants.{NoSet, Packet}
+use Rattle.association.specs.declared.address.Pair.{Pair}
 use Rattle.association.specs.declared.set.Parameters.{Parameters}
 use Rattle.esp.specs.Asking.{asked}
 use Rattle.esp.specs.Reading.{packet_right, spi_of}
@@ -89,9 +90,9 @@ taken a port σ = in_table (pair_is a port) σ.rows
 
 -- the same for an opening REGISTER that waits for its challenge, outside the row's slot 3, which the challenge fills
 -- anew
-abbrev pub taken_for : Option (Address × ℕ) → ℕ → State → Bool
+abbrev pub taken_for : Option Pair → ℕ → State → Bool
 taken_for None s σ = false
-taken_for (Some p) s σ = in_table (pair_is p.0 p.1) (slice_set σ.rows s (ended (row_of σ s)))
+taken_for (Some p) s σ = in_table (pair_is p.address p.port) (slice_set σ.rows s (ended (row_of σ s)))
 
 -- and for an arriving message
 abbrev pub taken_by : Address → Message → State → Bool

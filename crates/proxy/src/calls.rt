@@ -9,7 +9,7 @@ ghost use Rattle.registration.specs.Receiving.{heard_of};
 ghost use Rattle.std.specs.Prelude.{◌≡◌, length};
 
 use crate::proxy::Proxy;
-use association::Address;
+use association::{Address, Pair};
 use esp::{PacketReader, Suite};
 use integrity::Ik;
 use procedure::{Arrived, Chosen, Fault, Message, Offer, Outcome, Sent};
@@ -52,7 +52,10 @@ impl Proxy<'_> {
             service: self.service,
             subscriber: i as u16,
             address,
-            taken: self.is_taken(address, offer.port),
+            taken: self.is_taken(Pair {
+                address,
+                port: offer.port,
+            }),
         };
         let Proxy { rows, .. } = self;
         rows[i].enter(origin, offer, Cover::Clear)

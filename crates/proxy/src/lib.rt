@@ -8,4 +8,5 @@ mod proxy;
 mod table;
 mod within;
 
+pub use opening::MOST;
 pub use proxy::Proxy;

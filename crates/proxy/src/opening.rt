@@ -10,7 +10,7 @@ use procedure::{Preference, Service};
 use registration::Row;
 
 // At most so many subscribers.
-const MOST: usize = 4096;
+pub const MOST: usize = 4096;
 
 // Where SIP in clear arrives.
 const SIP_PORT: u16 = 5060;

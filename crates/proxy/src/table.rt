@@ -9,7 +9,7 @@ ghost use Rattle.procedure.specs.declared.faults.Fault.TheVariants.{Association,
 ghost use Rattle.association.specs.declared.faults.Fault.TheVariants.{NoSet};
 
 use crate::proxy::Proxy;
-use association::Address;
+use association::{Address, Pair};
 use procedure::{Fault, Message};
 use registration::{BLOCK, FIRST_BLOCK};
 
@@ -41,21 +41,21 @@ impl Proxy<'_> {
     }
 
     // Whether a set of the table has this address and port.
-    pub(crate) fn is_taken(&self, address: Address, port: u16) -> bool
-        ensures { result ≡ taken address port (state_of self.now) }
+    pub(crate) fn is_taken(&self, pair: Pair) -> bool
+        ensures { result ≡ taken pair.address pair.port (state_of self.now) }
     {
-        self.rows.iter().any(|row| row.has_pair(address, port))
+        self.rows.iter().any(|row| row.has_pair(pair))
     }
 
     // The same, slot 3 of the row at a place left out.
-    fn is_taken_beside(&self, place: usize, address: Address, port: u16) -> bool
-        ensures { result ≡ in_table (pair_is address port) (slice_set self.now.rows.now place (ended (row_of (state_of self.now) place))) }
+    fn is_taken_beside(&self, place: usize, pair: Pair) -> bool
+        ensures { result ≡ in_table (pair_is pair.address pair.port) (slice_set self.now.rows.now place (ended (row_of (state_of self.now) place))) }
     {
         self.rows.iter().enumerate().any(|(i, row)| {
             if i == place {
-                row.has_pair_in_traffic(address, port)
+                row.has_pair_in_traffic(pair)
             } else {
-                row.has_pair(address, port)
+                row.has_pair(pair)
             }
         })
     }
@@ -64,10 +64,10 @@ impl Proxy<'_> {
     pub(crate) fn is_taken_for(&self, place: usize) -> bool
         ensures { place < length self.now.rows.now → result ≡ taken_for (pending_pair (row_of (state_of self.now) place).stage) place (state_of self.now) }
     {
-        // A match: with is_some_and and a closure the check does not find the proof alone.
+        // A match: tried with `is_some_and` and a closure, whose goal `returns` does not close.
         match self.rows.get(place).and_then(|row| row.pending_pair()) {
             None => false,
-            Some((address, port)) => self.is_taken_beside(place, address, port),
+            Some(pair) => self.is_taken_beside(place, pair),
         }
     }
 
@@ -76,7 +76,10 @@ impl Proxy<'_> {
         ensures { result ≡ taken_by address message (state_of self.now) }
     {
         match message {
-            Message::Opening { offer, .. } => self.is_taken(address, offer.port),
+            Message::Opening { offer, .. } => self.is_taken(Pair {
+                address,
+                port: offer.port,
+            }),
             Message::Response { .. } | Message::Ordinary { .. } => false,
         }
     }

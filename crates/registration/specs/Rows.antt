@@ -1,9 +1,10 @@
 -- A row, and the questions to it.
 use Rattle.std.specs.Prelude.{◌≡◌, ℕ, Bool, false, cond, ◌||◌, Some, None, Option}
-use Rattle.association.specs.Asked.{Address}
+use Rattle.association.specs.declared.address.Pair.{Pair}
 use Rattle.association.specs.declared.set.Parameters.{Parameters}
 use Rattle.association.specs.declared.set.Set.{Set}
 use Rattle.registration.specs.declared.row.Row.{Row}
+use Rattle.procedure.specs.Stages.{pair_of}
 use Rattle.procedure.specs.declared.stage.Stage.{Stage}
 use Rattle.procedure.specs.declared.stage.Stage.TheVariants as stage
 use Rattle.slots.specs.Slots.{empty, put}
@@ -51,8 +52,8 @@ slot_for f r =
     (cond (passes f r.slots.registration) (Some Registration) None))
 
 -- the address and port of an opening REGISTER that waits for its challenge
-abbrev pub pending_pair : Stage → Option (Address × ℕ)
+abbrev pub pending_pair : Stage → Option Pair
 pending_pair stage.None = None
-pending_pair (stage.Offered p d) = Some (p.address, p.offer.port)
+pending_pair (stage.Offered p d) = Some (pair_of p)
 pending_pair (stage.Challenged p) = None
 pending_pair (stage.Answered p) = None

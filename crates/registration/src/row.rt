@@ -5,7 +5,7 @@ ghost use Rattle.registration.specs.Rows.{blank, ended, in_row, in_traffic, pass
 ghost use Rattle.std.specs.Fn.{FnReturnsAt};
 ghost use Rattle.std.specs.Prelude.{◌≡◌, Bool};
 
-use association::{Address, Set};
+use association::{Address, Pair, Set};
 use procedure::Stage;
 use slots::{Slot, Slots};
 
@@ -17,7 +17,7 @@ pub struct Row {
     pub(crate) stage: Stage,
 }
 
-// Whether a slot has a set that is such.
+// Whether a slot has a set that is such. A match: tried with `is_some_and`, whose goal `returns` does not close.
 fn has<F: Fn(&Set) -> bool>(slot: &Option<Set>, is_such: &F) -> bool
     requires { F.IsAlwaysCallable is_such.now }
     ensures { (f : Parameters → Bool) → Says (FnReturnsAt F.Fn is_such.now) f → result ≡ passes f slot.now }
@@ -58,17 +58,17 @@ impl Row {
     }
 
     // Whether a set of the subscriber has this address and port.
-    pub fn has_pair(&self, address: Address, port: u16) -> bool
-        ensures { result ≡ in_row (pair_is address port) self.now }
+    pub fn has_pair(&self, pair: Pair) -> bool
+        ensures { result ≡ in_row (pair_is pair.address pair.port) self.now }
     {
-        self.slot_where(|set| set.is_at(address, port)).is_some()
+        self.slot_where(|set| set.is_at(pair)).is_some()
     }
 
     // The same, slot 3 left out: a set in slot 1 or 2 is found before one in slot 3.
-    pub fn has_pair_in_traffic(&self, address: Address, port: u16) -> bool
-        ensures { result ≡ in_traffic (pair_is address port) self.now }
+    pub fn has_pair_in_traffic(&self, pair: Pair) -> bool
+        ensures { result ≡ in_traffic (pair_is pair.address pair.port) self.now }
     {
-        self.slot_where(|set| set.is_at(address, port))
+        self.slot_where(|set| set.is_at(pair))
             .is_some_and(|slot| slot != Slot::Registration)
     }
 
@@ -86,12 +86,12 @@ impl Row {
         self.slot_where(|set| set.takes(address, spi))
     }
 
-    // The address and port of an opening REGISTER that waits for its challenge.
-    pub fn pending_pair(&self) -> Option<(Address, u16)>
+    // The pair of an opening REGISTER that waits for its challenge.
+    pub fn pending_pair(&self) -> Option<Pair>
         ensures { result ≡ pending_pair self.now.stage }
     {
         match self.stage {
-            Stage::Offered { procedure, .. } => Some((procedure.address, procedure.offer.port)),
+            Stage::Offered { procedure, .. } => Some(procedure.pair()),
             Stage::None | Stage::Challenged { .. } | Stage::Answered { .. } => None,
         }
     }

@@ -6,10 +6,8 @@ ghost use Rattle.proxy.specs.Machine.{opened};
 
 use calls::Opening;
 use product::Pcscf;
+use proxy::MOST;
 use registration::Row;
-
-// At most so many rows are used, so that no more are made.
-const MOST: usize = 4096;
 
 // A proxy that serves nobody: what stands before the first `open` line.
 pub const NOBODY: Opening = Opening {
@@ -19,7 +17,7 @@ pub const NOBODY: Opening = Opening {
     second: None,
 };
 
-// How many rows to lend the proxy.
+// How many rows to lend the proxy: no more than it uses.
 pub fn room(opening: &Opening) -> usize
     ensures { result ≡ min opening.now.rows 4096 }
 {

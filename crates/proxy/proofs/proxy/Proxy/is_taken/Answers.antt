@@ -7,5 +7,5 @@ use Rattle.std.proofs.lemmas.List.Recursion.{or_is}
 
 pub returns : goal.returns
 returns c =
-    let f = pair_is c.args.address c.args.port in
+    let f = pair_is c.args.pair.address c.args.pair.port in
     or_is (in_table f) (in_row f) refl (λ _ _. refl) c.args.self.now.rows.now blank _ (search rules) (search rules)

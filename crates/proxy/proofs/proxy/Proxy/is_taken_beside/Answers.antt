@@ -8,7 +8,7 @@ use Rattle.std.proofs.lemmas.Iterator.Search.{any_from_yields_List}
 
 pub returns : goal.returns
 returns c =
-    let f = pair_is c.args.address c.args.port in
+    let f = pair_is c.args.pair.address c.args.pair.port in
     any_from_yields_List (beside f c.args.place) _ _ c.any.result c.any.ensures.ran
     (YieldsList-from_enumerate (YieldsList-from_slice c.args.self.now.rows.now (cc)) (search rules)) (λ x b q k. search (rules, tests))
     ∙ beside_any f c.args.place 0 c.args.place c.args.self.now.rows.now (omega arith)
