@@ -16,15 +16,14 @@ ROWS = [
     ("1", "numbers that stand for a kind or a refusal", r"^ +(pub )?(first|second|number|kind|code): (u8|Option<u8>),"),
     ("1", "refusals wrapped by hand", r"Err\(Fault::Association\("),
     ("1", "a missing field refused by hand", r"let Some\(\w+\) = (self|fields)\.next\(\) else \{\s+return Err\(Refusal::BadLine\);"),
-    ("2", "functions once for each algorithm, first or second", r"(?s)match algorithm \{\s+Algorithm::\w+ => \w+(::\w+)*(::<\w+>)?\("),
+    ("2", "functions once for each algorithm, first or second", r"match (\w+\.)?algorithm \{"),
     ("2", "functions once for each width or kind of a field", r"pub fn (number|short|byte|algorithm|sequence)\(&mut self\)|fn sequence\(&mut self\)"),
-    ("2", "types declared in two crates", r"^(pub )?(struct Tally|enum Algorithm) \{"),
     ("2", "tests of a slot, once for each question", r"fn slot_(at|uses|takes)\("),
     ("2", "a call as into an area of a given length", r"fn \w+_within(<S: Suite>|<First: Integrity, Second: Integrity>)?\("),
     ("2", "words read or written in one byte order", r"from_[bl]e_bytes\(\[block\[|word\.to_[bl]e_bytes\(\)"),
     ("3", "a loop over a range of indices", r"for \w+ in [^{\n]*\.\."),
     ("3", "a loop that counts beside its items", r"for \(\w+, \w+\) in [^{]*?\.enumerate\(\)"),
-    ("4", "a number or a name of an enum by a table", r"fn (number|name|phase)\((self|&self)\)"),
+    ("4", "a number or a name of an enum by a table", r"fn (number|name|phase)\((self|&self)\)[^{]*\{[^}]*\}\s*\{\s+match"),
     ("4", "equality by hand", r"fn (is|is_text|same)\(|\.0 == \w+\.0$"),
     ("4", "conversion by hand", r"^fn (algorithm_by|number_of|cover_of|carrier_of|user_failure_carrier)\(|pub fn read_name\("),
     ("5", "the clause `housed`", r"ensures housed "),
@@ -32,14 +31,16 @@ ROWS = [
     ("5", "two type parameters that travel together", r"First: Integrity, Second: Integrity"),
     ("5", "algorithm, key and SPI beside each other", r"algorithm: Algorithm,\s+ik: (&Ik|Ik),\s+spi: u32,"),
     ("5", "service, subscriber, taken and address beside each other", r"service: Service,\s+subscriber: u16,\s+taken: bool,\s+address: Address,"),
+    ("5", "the clause `rest` of a field's reader", r"ensures rest \{"),
+    ("5", "an address beside the port of its pair", r"address: Address, port: u16|Option<\(Address, u16\)>"),
     ("5", "a reader seen as the list of its fields", r"fields_of (self|fields)\.(old|new)"),
     ("5", "the heap handed on beside the fields", r"heap: Global,\s*([^(){}]*,\s*)?fields: &mut Fields|&mut self, heap: Global"),
     ("5", "a segment and the area that it goes into", r"segment: &\[u8\],\s+(area: u32,\s+)?out: &mut \["),
     ("5", "a right length asked of the packet's reader", r"saturating_sub\(TA(G_LEN|IL)\)|byte_at\(b, "),
     ("6", "a fixed buffer with a count beside it", r"= \[0; LONGEST_PACKET\];"),
     ("6", "an area by its length beside a fixed buffer", r"area: u32,\s+out: &mut \[u8; 1424\]"),
-    ("7", "a chain of tests of a word", r"(?<!else )if is_text\("),
-    ("7", "a call's answer or refusal told by a match of its own", r"match pcscf\.\w+\("),
+    ("7", "a chain of tests of a word", r"(?<!else )if (is_text\(|\w+ == b\")"),
+    ("7", "a call's answer or refusal told by a match of its own", r"Err\(fault\) => (\{ )?(Ok\()?(refused\(|\w+::Refused)"),
 ]
 
 
@@ -69,7 +70,14 @@ def main():
                 line = text.count("\n", 0, found.start()) + 1
                 places.append(f"{name}:{line}")
         tell(point, what, places)
+    tell("2", "types declared in two crates", in_two_crates(files))
     tell("2", "functions of one name in the two programs that answer scripts", in_both(files))
+
+
+def in_two_crates(files):
+    """The declarations of a type that stands in another crate too, where the two say the same."""
+    found = [(word, name) for word in ("Algorithm", "Tally") for name, text in files if re.search(rf"^(pub )?(struct|enum) {word} ", text, re.MULTILINE)]
+    return [name for word, name in found if sum(other == word for other, _ in found) > 1]
 
 
 def in_both(files):

@@ -1,5 +1,5 @@
 -- A row, and the questions to it.
-use Rattle.std.specs.Prelude.{◌≡◌, ℕ, Bool, false, cond, ◌||◌, Some, None, Option}
+use Rattle.std.specs.Prelude.{◌≡◌, Bool, false, cond, ◌||◌, Some, None, Option}
 use Rattle.association.specs.declared.address.Pair.{Pair}
 use Rattle.association.specs.declared.set.Parameters.{Parameters}
 use Rattle.association.specs.declared.set.Set.{Set}
