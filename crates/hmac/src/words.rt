@@ -58,7 +58,8 @@ pub fn words<B: ByteOrder>(block: &[u8; 64]) -> [u32; 16]
 {
     let (fours, _) = block.as_chunks::<4>();
     let mut all = [0; 16];
-    // An array's `map` makes a whole digest a tenth slower, so the words are written by their places.
+    // By places, as `map` makes a digest a tenth slower, and after `iter_mut().zip(fours)` nothing is known of `all`, so that
+    // the goal that it is `words_of B.word block.now` does not close.
     for (i, four) in fours.iter().enumerate() {
         all[i] = B::word(*four);
     }
