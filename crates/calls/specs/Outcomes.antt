@@ -1,9 +1,11 @@
 -- The line that concludes a registration.
-use Rattle.std.specs.Prelude.{ℕ, cond, List, [], ◌∷◌, None, codes, Option}
+use Rattle.std.specs.Prelude.{ℕ, cond, List, None, Some, codes, Option}
 use Rattle.calls.specs.declared.line.CallLine.{CallLine}
 use Rattle.calls.specs.declared.line.CallLine.TheVariants.{Conclude}
 use Rattle.procedure.specs.declared.message.Outcome.{Outcome}
-use Rattle.procedure.specs.declared.message.Outcome.TheVariants.{OtherFailure, Success, UserFailure}
+use Rattle.procedure.specs.declared.message.Outcome.TheVariants as outcome
+use Rattle.calls.specs.declared.outcomes.Kind.{Kind}
+use Rattle.calls.specs.declared.outcomes.Kind.TheVariants.{OtherFailure, Success, UserFailure}
 use Rattle.script.specs.Hex.{bytes_of}
 use Rattle.script.specs.Words.{ended, field, number16, number32}
 use Rattle.std.specs.Str.{bytes_eq}
@@ -14,18 +16,23 @@ told_line s o ws = field bytes_of ws (λ segment ws. field number32 ws (λ area 
 
 --   TIMER MASK SEGMENT AREA
 abbrev pub success_line : ℕ → List (List ℕ) → Option (CallLine (List ℕ))
-success_line s ws = field number32 ws (λ timer ws. field number16 ws (λ mask ws. told_line s (Success timer mask) ws))
+success_line s ws = field number32 ws (λ timer ws. field number16 ws (λ mask ws. told_line s (outcome.Success timer mask) ws))
 
--- an outcome that a word names
-abbrev pub conclude_by : ℕ → List ℕ → List (List ℕ) → Option (CallLine (List ℕ))
-conclude_by s kind ws =
-    cond (bytes_eq kind (codes "success")) (success_line s ws)
-    (cond (bytes_eq kind (codes "user-failure")) (told_line s UserFailure ws)
-    (cond (bytes_eq kind (codes "other-failure")) (told_line s OtherFailure ws) None))
+-- the kind of outcome that a word names
+abbrev pub kind_of : List ℕ → Option Kind
+kind_of w =
+    cond (bytes_eq w (codes "success")) (Some Success)
+    (cond (bytes_eq w (codes "user-failure")) (Some UserFailure)
+    (cond (bytes_eq w (codes "other-failure")) (Some OtherFailure) None))
 
-unfoldable pub conclude_as : ℕ → List (List ℕ) → Option (CallLine (List ℕ))
-conclude_as s [] = None
-conclude_as s (kind ∷ ws) = conclude_by s kind ws
+-- an outcome of a kind
+abbrev pub conclude_by : ℕ → Kind → List (List ℕ) → Option (CallLine (List ℕ))
+conclude_by s Success ws = success_line s ws
+conclude_by s UserFailure ws = told_line s outcome.UserFailure ws
+conclude_by s OtherFailure ws = told_line s outcome.OtherFailure ws
+
+abbrev pub conclude_as : ℕ → List (List ℕ) → Option (CallLine (List ℕ))
+conclude_as s ws = field kind_of ws (conclude_by s)
 
 --   outcome SUB success ..   outcome SUB user-failure ..   outcome SUB other-failure ..
 abbrev pub conclude_line : List (List ℕ) → Option (CallLine (List ℕ))

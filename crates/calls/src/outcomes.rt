@@ -1,13 +1,34 @@
 // The line that concludes a registration.
 ghost use Rattle.calls.specs.Lines.{call_by};
-ghost use Rattle.calls.specs.Outcomes.{conclude_as, conclude_by, conclude_line, success_line, told_line};
+ghost use Rattle.calls.specs.Outcomes.{conclude_as, conclude_line, kind_of, success_line, told_line};
 ghost use Rattle.script.specs.Reads.{Says};
 ghost use Rattle.std.specs.Prelude.{◌≡◌, vec_items};
 
 use crate::line::CallLine;
 use procedure::Outcome;
-use script::{Fields, Refusal};
+use script::{Field, Fields, Refusal};
 use std::alloc::Global;
+
+// The kinds of outcome.
+#[derive(Clone, Copy)]
+enum Kind {
+    Success,
+    UserFailure,
+    OtherFailure,
+}
+
+impl Field for Kind {
+    ghost read = { kind_of };
+
+    fn read(word: &[u8]) -> Option<Kind> {
+        match word {
+            b"success" => Some(Kind::Success),
+            b"user-failure" => Some(Kind::UserFailure),
+            b"other-failure" => Some(Kind::OtherFailure),
+            _ => None,
+        }
+    }
+}
 
 // The fields after an outcome: the segment that tells the handset of it, and the area.
 fn told_line(
@@ -36,33 +57,15 @@ fn success_line(subscriber: u32, fields: &mut Fields) -> Result<CallLine<Vec<u8>
     told_line(subscriber, Outcome::Success { timer, mask }, fields)
 }
 
-// The outcome that a word names, with its fields. It is no `match` on the word, whose last arm is reached from each letter of
-// the three: the goal of that arm does not close.
-fn conclude_by(
-    subscriber: u32,
-    kind: &[u8],
-    fields: &mut Fields,
-) -> Result<CallLine<Vec<u8>>, Refusal>
-    ensures { Says (call_by vec_items) result (conclude_by subscriber kind.now fields.old) }
-{
-    if kind == b"success".as_slice() {
-        success_line(subscriber, fields)
-    } else if kind == b"user-failure".as_slice() {
-        told_line(subscriber, Outcome::UserFailure, fields)
-    } else if kind == b"other-failure".as_slice() {
-        told_line(subscriber, Outcome::OtherFailure, fields)
-    } else {
-        Err(Refusal::BadLine)
-    }
-}
-
 // The outcome that ends a line, its kind first.
-#[tactic(auto, unfolding(crate::specs::Outcomes::conclude_as))]
 fn conclude_as(subscriber: u32, fields: &mut Fields) -> Result<CallLine<Vec<u8>>, Refusal>
     ensures { Says (call_by vec_items) result (conclude_as subscriber fields.old) }
 {
-    let kind = fields.expected()?;
-    conclude_by(subscriber, kind, fields)
+    match fields.read()? {
+        Kind::Success => success_line(subscriber, fields),
+        Kind::UserFailure => told_line(subscriber, Outcome::UserFailure, fields),
+        Kind::OtherFailure => told_line(subscriber, Outcome::OtherFailure, fields),
+    }
 }
 
 pub fn conclude_line(fields: &mut Fields) -> Result<CallLine<Vec<u8>>, Refusal>
