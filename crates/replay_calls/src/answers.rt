@@ -33,6 +33,7 @@ pub fn sent(
     requires { bytes_of gave ≤ 1424 }
     ensures { IfOk result (λ a. text_of a ≡ sent_said call gave (take (bytes_of gave) area.now)) }
 {
+    // A `match`, here and in `arrived`, as the answer takes memory: a closure under `answered` could not leave by `?`.
     match gave {
         Ok(sent) => Ok(CallAnswer::Sent {
             call,

@@ -19,6 +19,7 @@ pub fn seal(
     ensures { IfOk result (λ r. (result_map_both vec_items (λ e. e) r ≡ packet_of (sealing_to to.now counter.old segment.now area)) × (counter.new ≡ (sealing_to to.now counter.old segment.now area).counter)) }
 {
     let mut packet = vec![in heap; 0; LONGEST_PACKET.min(area as usize)]?;
+    // A `match`: under `map` the goal that the packet that came out is `packet_of` of the sealing does not close at once.
     match product::seal(to, counter, segment, packet.as_mut_slice()) {
         Ok(n) => {
             packet.truncate(n);
@@ -39,7 +40,13 @@ fn source_bytes(heap: Global, source: Source<Vec<u8>>) -> Result<Vec<u8>, AllocE
             segment,
         } => {
             let mut counter = number.saturating_sub(1);
-            let packet = seal(heap, &to, &mut counter, segment.as_slice(), 1424)?;
+            let packet = seal(
+                heap,
+                &to,
+                &mut counter,
+                segment.as_slice(),
+                LONGEST_PACKET as u32,
+            )?;
             Ok(packet.unwrap_or(Vec::new(heap)))
         }
     }

@@ -23,13 +23,13 @@ fn seal(
     ensures { IfOk result (λ a. text_of a ≡ sealing_reply (sealing_to to.now counter segment.now area)) }
 {
     let mut count = counter;
-    match packets::seal(heap, to, &mut count, segment, area)? {
-        Ok(packet) => Ok(Answer::Sealed { count, packet }),
-        Err(fault) => Ok(Answer::Refused {
+    Ok(packets::seal(heap, to, &mut count, segment, area)?.map_or_else(
+        |fault| Answer::Refused {
             call: Call::Seal,
             fault,
-        }),
-    }
+        },
+        |packet| Answer::Sealed { count, packet },
+    ))
 }
 
 fn unseal(
@@ -41,6 +41,7 @@ fn unseal(
     ensures { IfOk result (λ a. (text_of a ≡ open_reply (opening_from from.now window.old (packet_bytes (packet_by vec_items packet))).result) × (window.new ≡ (opening_from from.now window.old (packet_bytes (packet_by vec_items packet))).window)) }
 {
     let bytes = packets::packet_bytes(heap, packet)?;
+    // A `match`, as the answer takes memory: the closures of `map_or_else` give no `Result` that `?` could leave by.
     match product::open(from, window, bytes.as_slice()) {
         Ok(opened) => Ok(Answer::Opened {
             place: opened.place,
