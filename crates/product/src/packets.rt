@@ -1,4 +1,5 @@
-// The packet layer over the product's algorithms.
+// The packet layer over the product's algorithms. `tag`, `seal` and `open` are forwarded, since each contract here names the
+// product's own two algorithms, and each forward has a must-fail edit or a clause that hangs on that.
 //
 // A segment and the area that it goes into stay two parameters: the host lends both, and what a call leaves is said of the
 // area alone.

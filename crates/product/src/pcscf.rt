@@ -1,12 +1,14 @@
-// The proxy over the product's algorithms. Each call is the proxy's, which docs/machine.md describes. Each is forwarded, by
-// rule of the project: the algorithms come to a call as a type, and the product's contracts name its own.
+// The proxy over the product's algorithms. Each call is the proxy's, which docs/machine.md describes. Each is forwarded, since
+// each contract here names the product's own two algorithms, and each forward has a must-fail edit or a clause that hangs on
+// that.
 //
 // A segment and the area that it goes into stay two parameters: the host lends both, and what a call leaves is said of the
 // area alone.
 ghost use Rattle.std.specs.Prelude.{◌≡◌, ◌≤◌, length, take, IfOk};
-ghost use Rattle.product.specs.Product.{macs, state_in};
 ghost use Rattle.proxy.specs.Machine.{answered, arriving, arriving_wide, challenging, concluding, deregistering, leaves, opened, refreshing, registered, sending, ticked};
+ghost use Rattle.proxy.specs.Housing.{Housed, housed_prop};
 ghost use Rattle.proxy.specs.State.{count_of};
+ghost use Rattle.proxy.specs.Stated.{state_of};
 ghost use Rattle.registration.specs.Receiving.{heard_of};
 
 use crate::packets::Hmacs;
@@ -18,11 +20,14 @@ use registration::Row;
 
 #[derive(Drop)]
 pub struct Pcscf<'a> {
-    // Its type says that every set stands in the row of its block.
     proxy: Proxy<'a>,
+    // Every set stands in the row of its block, so that who holds the product can say so too.
+    pub ghost housed: { Housed (state_of proxy) } by { housed_prop (state_of proxy) },
 }
 
 impl<'a> Pcscf<'a> {
+    ghost use Rattle.product.specs.Product.{macs, state_in};
+
     // Opens a proxy over some rows, with its protected port and its algorithms by number, the preferred one first.
     pub fn open(rows: &'a mut [Row], port: u16, algorithms: &[u8]) -> Pcscf<'a>
         ensures machine { state_in result ≡ opened rows.old port algorithms.now }
