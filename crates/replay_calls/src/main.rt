@@ -19,7 +19,8 @@ use std::io::{BufRead, BufReader, Stdin};
 use texts::CallAnswer;
 use turns::turn;
 
-// A script that is read line by line.
+// A script that is read line by line. A struct, unlike the loop of crate replay, since reading goes on after a proxy was opened
+// anew.
 #[derive(Drop)]
 struct Script {
     input: BufReader<Stdin>,

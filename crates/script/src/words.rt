@@ -88,7 +88,9 @@ impl<'a> Fields<'a> {
         F::read(self.expected()?).ok_or(Refusal::BadLine)
     }
 
-    // The next field as an IK.
+    // The next field as an IK. What takes memory (an IK, bytes, a segment, a packet) has a method of one line of its own: a type
+    // says what is read, and the bytes that a Vec holds are no type of the definitions. What each reader leaves, `rest`, stands
+    // in each clause, since it speaks of before and after.
     pub fn ik(&mut self) -> Result<Ik, Refusal>
         ensures value { Says (λ ik. ik) result (first_as ik_of self.old) }
         ensures rest { self.new ≡ others self.old }
