@@ -11,7 +11,7 @@ use crate::address::{Address, Pair};
 use crate::faults::Fault;
 use crate::ports::{destination_port, source_port};
 use crate::set::{Parameters, Set};
-use esp::{Association, ReplayWindow, Segment, Suite};
+use esp::{ReplayWindow, Segment, Suite};
 use slots::Slot;
 
 impl Set {

@@ -7,7 +7,6 @@ ghost use Rattle.std.specs.Prelude.{◌≡◌, vec_items};
 use crate::line::CallLine;
 use procedure::Outcome;
 use script::{Field, Fields, Refusal};
-use std::alloc::Global;
 
 // The kinds of outcome.
 #[derive(Clone, Copy)]

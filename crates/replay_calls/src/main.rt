@@ -13,7 +13,6 @@ use esp::ReplayWindow;
 use next::Next;
 use product::Pcscf;
 use registration::Row;
-use std::alloc::Global;
 use std::io;
 use std::io::{BufRead, BufReader, Stdin};
 use texts::CallAnswer;
