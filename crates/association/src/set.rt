@@ -12,7 +12,8 @@ use slots::Expiring;
 // What of a set never changes.
 #[derive(Clone, Copy)]
 pub struct Parameters {
-    // The handset's address, port and SPI: where packets to it go, and what they name.
+    // The handset's address, port and SPI: where packets to it go, and what they name. Address and port are no Pair here, as the
+    // definitions ask for the address with the port or with the proxy's SPI.
     pub address: Address,
     pub port: u16,
     pub spi: u32,

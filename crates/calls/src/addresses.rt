@@ -1,4 +1,6 @@
 // Addresses in a script.
+//
+// What a reader leaves, `rest`, stands in the clauses of each, as it speaks of before and after, and no type does.
 ghost use Rattle.calls.specs.Addresses.{address_by, address_of};
 ghost use Rattle.script.specs.Fields.{others};
 ghost use Rattle.script.specs.Reads.{Says};

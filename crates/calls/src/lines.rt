@@ -1,8 +1,6 @@
 // Reading a line that calls the proxy, and a line of the whole grammar.
 ghost use Rattle.calls.specs.Lines.{arrive_line, called_by, call_by, call_of, challenge_line, deregister_line, last_byte, line_by, line_of, open_line, refresh_line, register_line, send_line, tick_line};
-ghost use Rattle.script.specs.Fields.{others};
 ghost use Rattle.script.specs.Reads.{Says};
-ghost use Rattle.script.specs.Words.{first_as};
 ghost use Rattle.script.specs.declared.refusal.Refusal.TheVariants.{BadLine};
 ghost use Rattle.std.specs.Prelude.{◌≡◌, vec_items};
 ghost use Rattle.std.specs.Option.{ok_or};

@@ -2,7 +2,7 @@
 ghost use Rattle.calls.specs.Lines.{call_by};
 ghost use Rattle.calls.specs.Outcomes.{conclude_as, conclude_line, kind_of, success_line, told_line};
 ghost use Rattle.script.specs.Reads.{Says};
-ghost use Rattle.std.specs.Prelude.{◌≡◌, vec_items};
+ghost use Rattle.std.specs.Prelude.{vec_items};
 
 use crate::line::CallLine;
 use procedure::Outcome;

@@ -1,6 +1,6 @@
 // The proxy over the product's algorithms. Each call is the proxy's, which docs/machine.md describes. Each is forwarded, since
 // each contract here names the product's own two algorithms, and each forward has a must-fail edit or a clause that hangs on
-// that.
+// that. The forms `.._within` are forwarded too: within.rt of proxy says why there are three, and why an array.
 //
 // A segment and the area that it goes into stay two parameters: the host lends both, and what a call leaves is said of the
 // area alone.

@@ -3,7 +3,7 @@ ghost use Rattle.association.specs.Asked.{pair_is};
 ghost use Rattle.proxy.specs.Machine.{home_of, homed, taken, taken_by, taken_for};
 ghost use Rattle.proxy.specs.State.{count_of, in_table, row_of};
 ghost use Rattle.proxy.specs.Stated.{state_of};
-ghost use Rattle.std.specs.Prelude.{◌≡◌, ◌<◌, ◌≤◌, true, false, length, set, MatchResult, nat_lt, slice_set};
+ghost use Rattle.std.specs.Prelude.{◌≡◌, ◌<◌, true, false, length, set, MatchResult, nat_lt, slice_set};
 ghost use Rattle.registration.specs.Rows.{ended, pending_pair};
 ghost use Rattle.procedure.specs.declared.faults.Fault.TheVariants.{Association, NoSubscriber};
 ghost use Rattle.association.specs.declared.faults.Fault.TheVariants.{NoSet};

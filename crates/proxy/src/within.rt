@@ -1,6 +1,8 @@
 // The calls that send, with an output area that is given by its length: they answer, write and refuse as into an area of
 // that length, of which no more than the longest packet is ever needed. Each is two lines: one function that took the call
 // as a closure would need a clause, longer than these, on what the closure leaves of the area that it is lent.
+// The array has the length of the longest packet, which its type can say by a figure alone. `stays` is in each for the reason
+// that calls.rt gives.
 //
 // A segment and the area that it goes into stay two parameters: the host lends both, and what a call leaves is said of the
 // area alone.

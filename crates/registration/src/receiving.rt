@@ -1,5 +1,5 @@
 // A packet from the handset, on the row that has its set.
-ghost use Rattle.registration.specs.Receiving.{admitted, answered_on, heard, heard_of, in_mask, opening_on, ordinary_on, received, response_on, settled_on, shown_segment};
+ghost use Rattle.registration.specs.Receiving.{admitted, heard, heard_of, in_mask, opening_on, ordinary_on, received, response_on, settled_on, shown_segment};
 ghost use Rattle.slots.specs.Numbers.{slot_cover};
 ghost use Rattle.std.specs.Prelude.{◌≡◌};
 

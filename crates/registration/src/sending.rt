@@ -2,8 +2,7 @@
 //
 // A segment and the area that it goes into stay two parameters: the host lends both, and what a call leaves is said of the
 // area alone.
-ghost use Rattle.std.specs.Prelude.{◌≡◌, ◌≤◌, length};
-ghost use Rattle.esp.specs.Sealing.{laid};
+ghost use Rattle.std.specs.Prelude.{◌≡◌, length};
 ghost use Rattle.registration.specs.Emitting.{copied, copy_leaves, emitted, emitted_by, leaves, unsent};
 ghost use Rattle.registration.specs.Sending.{challenged, concluded, cover_stands, failed_by, parameters_of, sent, terms_right, traffic_slot, user_failure_carrier};
 
@@ -134,7 +133,8 @@ impl Row {
         }
     }
 
-    // Sends the challenge, and makes the set for its response. It takes no Origin: the address is the procedure's own.
+    // Sends the challenge, and makes the set for its response. It takes no Origin: the address is the
+    // procedure's own. `taken` is the one bit of the rest of the table, as in Origin.
     #[tactic(auto, unfolding(crate::specs::Sending::challenged, esp::specs::Asking::asked))]
     pub fn challenge<S: Suite>(
         &mut self,

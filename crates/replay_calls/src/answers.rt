@@ -33,7 +33,8 @@ pub fn sent(
     requires { bytes_of gave ≤ 1424 }
     ensures { IfOk result (λ a. text_of a ≡ sent_said call gave (take (bytes_of gave) area.now)) }
 {
-    // A `match`, here and in `arrived`, as the answer takes memory: a closure under `answered` could not leave by `?`.
+    // A `match`, here and in `arrived`, as the answer takes memory: under `map_or_else` both arms would be wrapped in `Ok`, which
+    // is no plainer.
     match gave {
         Ok(sent) => Ok(CallAnswer::Sent {
             call,

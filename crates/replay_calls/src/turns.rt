@@ -1,5 +1,5 @@
 // The reply to each line of a script.
-ghost use Rattle.calls.specs.Lines.{call_by, line_by, line_of};
+ghost use Rattle.calls.specs.Lines.{call_by, line_of};
 ghost use Rattle.product.specs.Product.{state_in};
 ghost use Rattle.replay_calls.specs.Calls.{state_after, text_for};
 ghost use Rattle.replay_calls.specs.Turns.{Shows, turn_of};

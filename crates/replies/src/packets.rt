@@ -19,7 +19,7 @@ pub fn seal(
     ensures { IfOk result (λ r. (result_map_both vec_items (λ e. e) r ≡ packet_of (sealing_to to.now counter.old segment.now area)) × (counter.new ≡ (sealing_to to.now counter.old segment.now area).counter)) }
 {
     let mut packet = vec![in heap; 0; LONGEST_PACKET.min(area as usize)]?;
-    // A `match`: under `map` the goal that the packet that came out is `packet_of` of the sealing does not close at once.
+    // A `match`: under `map` the goal that the packet that came out is `packet_of` of the sealing did not close.
     match product::seal(to, counter, segment, packet.as_mut_slice()) {
         Ok(n) => {
             packet.truncate(n);

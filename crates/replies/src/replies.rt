@@ -41,7 +41,7 @@ fn unseal(
     ensures { IfOk result (λ a. (text_of a ≡ open_reply (opening_from from.now window.old (packet_bytes (packet_by vec_items packet))).result) × (window.new ≡ (opening_from from.now window.old (packet_bytes (packet_by vec_items packet))).window)) }
 {
     let bytes = packets::packet_bytes(heap, packet)?;
-    // A `match`, as the answer takes memory: the closures of `map_or_else` give no `Result` that `?` could leave by.
+    // A `match`, as the answer takes memory: under `map_or_else` both arms would be wrapped in `Ok`, which is no plainer.
     match product::open(from, window, bytes.as_slice()) {
         Ok(opened) => Ok(Answer::Opened {
             place: opened.place,

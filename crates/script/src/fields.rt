@@ -1,4 +1,6 @@
 // The fields of a line, one after another.
+//
+// What a reader leaves, `rest`, stands in the clauses of each, as it speaks of before and after, and no type does.
 ghost use Rattle.std.specs.Prelude.{◌≡◌, ◌<◌, ◌==◌};
 ghost use Rattle.script.specs.Fields.{after, before, first, mark_of, others, split, takes};
 ghost use Rattle.std.specs.List.{position};
@@ -17,7 +19,7 @@ pub enum Separator {
 }
 
 impl Separator {
-    // The byte that separates.
+    // The byte that separates, by a table: a byte's literal says more than the discriminant 32 or 58.
     fn mark(self) -> u8
         ensures { result ≡ mark_of self }
     {

@@ -1,6 +1,6 @@
 // Bytes in hexadecimal.
 ghost use Rattle.std.specs.Prelude.{◌≡◌, ℕ, ◌<◌, List, IfSome, Some, vec_items};
-ghost use Rattle.script.specs.Hex.{byte_of, bytes_of, digit_of, glyph, hex_of, paired};
+ghost use Rattle.script.specs.Hex.{byte_of, bytes_of, digit_of, hex_of, paired};
 ghost use Rattle.script.specs.Reads.{Says};
 ghost use Rattle.std.specs.Int.Digits.{AllBelowBase};
 

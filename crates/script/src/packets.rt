@@ -1,4 +1,6 @@
 // Reading a packet of a script.
+//
+// What a reader leaves, `rest`, stands in the clauses of each, as it speaks of before and after, and no type does.
 ghost use Rattle.script.specs.Fields.{others};
 ghost use Rattle.script.specs.Packets.{length_of, packet_by, packet_of, sealed_by, segment_of, sequence_of, source_by, source_of};
 ghost use Rattle.script.specs.Reads.{Says};

@@ -1,4 +1,6 @@
 // Fields by their kinds.
+//
+// What a reader leaves, `rest`, stands in the clauses of each, as it speaks of before and after, and no type does.
 ghost use Rattle.script.specs.Fields.{first, others};
 ghost use Rattle.script.specs.Hex.{bytes_of};
 ghost use Rattle.script.specs.Reads.{Says};
@@ -64,7 +66,7 @@ impl Field for Algorithm {
 }
 
 // The 16 bytes of an IK.
-pub fn read_ik(heap: Global, text: &[u8]) -> Result<Ik, Refusal>
+fn read_ik(heap: Global, text: &[u8]) -> Result<Ik, Refusal>
     ensures { Says (λ ik. ik) result (ik_of text.now) }
 {
     let bytes = read_bytes(heap, text)?;
@@ -89,8 +91,7 @@ impl<'a> Fields<'a> {
     }
 
     // The next field as an IK. What takes memory (an IK, bytes, a segment, a packet) has a method of one line of its own: a type
-    // says what is read, and the bytes that a Vec holds are no type of the definitions. What each reader leaves, `rest`, stands
-    // in each clause, since it speaks of before and after.
+    // says what is read, and the bytes that a Vec holds are no type of the definitions.
     pub fn ik(&mut self) -> Result<Ik, Refusal>
         ensures value { Says (λ ik. ik) result (first_as ik_of self.old) }
         ensures rest { self.new ≡ others self.old }

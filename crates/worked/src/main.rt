@@ -16,14 +16,14 @@ fn told<T, F: FnOnce(T) -> Result<String, AllocError>>(
 ) -> Result<String, AllocError>
     requires { F.IsAlwaysCallable shown }
 {
-    match answer {
-        Ok(answer) => shown(answer),
-        Err(fault) => {
+    answer.map_or_else(
+        |fault| {
             let number = fault.number();
             let place = fault.place();
             format!(in heap; "fault {number}, place {place}")
-        }
-    }
+        },
+        shown,
+    )
 }
 
 fn chosen(heap: Global, answer: Result<Chosen, Fault>) -> Result<String, AllocError> {
