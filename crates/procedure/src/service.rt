@@ -1,6 +1,6 @@
 // What the work on a row depends on besides the row.
 ghost use Rattle.procedure.specs.Offers.{common, listed, serves};
-ghost use Rattle.std.specs.Prelude.{◌≡◌, Some};
+ghost use Rattle.std.specs.Prelude.{◌≡◌};
 
 use crate::offer::Offer;
 use integrity::Algorithm;
@@ -46,11 +46,11 @@ impl Preference {
         }
     }
 
-    // The first that an offer has.
-    pub fn common(self, offer: &Offer) -> Option<Algorithm>
-        ensures { result ≡ common (Some self) offer.now }
+    // The first that an offer has, of a proxy's own list: without one there is none.
+    pub fn common(list: Option<Preference>, offer: &Offer) -> Option<Algorithm>
+        ensures { result ≡ common list offer.now }
     {
-        match self {
+        match list? {
             Preference::Only(a) => offer.has(a).then_some(a),
             Preference::Both(a, b) => { offer.has(a).then_some(a).or(offer.has(b).then_some(b)) }
         }

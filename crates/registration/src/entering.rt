@@ -6,7 +6,7 @@ use crate::blocks::{BLOCK, FIRST_BLOCK};
 use crate::keeping::PATIENCE;
 use crate::origin::Origin;
 use crate::row::Row;
-use procedure::{Chosen, Fault, Offer, Procedure, Stage};
+use procedure::{Chosen, Fault, Offer, Preference, Procedure, Stage};
 use slots::Cover;
 
 impl Row {
@@ -37,11 +37,9 @@ impl Row {
         if !offer.is_right() {
             return Err(Fault::BadOffer(self.stage.phase()));
         }
-        let algorithm = origin
-            .service
-            .algorithms
-            .and_then(|own| own.common(&offer))
-            .ok_or(Fault::NoAlgorithm(self.stage.phase()))?;
+        let algorithm = Preference::common(origin.service.algorithms, &offer).ok_or(
+            Fault::NoAlgorithm(self.stage.phase()),
+        )?;
         if self.uses(offer.spi) {
             return Err(Fault::SpiInUse(self.stage.phase()));
         }

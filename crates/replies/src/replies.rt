@@ -1,7 +1,8 @@
 // The reply to each line of the packet layer.
+ghost use Rattle.esp.specs.Faults.{number_of, place_of};
 ghost use Rattle.replies.specs.Packets.{opening_from, packet_bytes, sealing_to};
 ghost use Rattle.replies.specs.Replies.{open_reply, reply_to, sealing_reply};
-ghost use Rattle.script.specs.Answers.{bad_text, text_of};
+ghost use Rattle.script.specs.Answers.{bad_text, fault_text, text_of};
 ghost use Rattle.script.specs.Lines.{line_by};
 ghost use Rattle.script.specs.Packets.{packet_by};
 ghost use Rattle.script.specs.declared.refusal.Refusal.TheVariants.{BadLine};
@@ -9,9 +10,20 @@ ghost use Rattle.std.specs.Option.{option_map};
 ghost use Rattle.std.specs.Prelude.{◌≡◌, IfOk, vec_items};
 
 use crate::packets;
-use esp::{Association, ReplayWindow};
+use esp::{Association, Fault, ReplayWindow};
 use script::{Answer, Call, Line, Packet, Refusal};
 use std::alloc::{AllocError, Global};
+
+// The answer of a call that the packet layer refused.
+fn refused(call: Call, fault: Fault) -> Answer
+    ensures { text_of result ≡ fault_text call (number_of fault) (place_of fault) }
+{
+    Answer::Refused {
+        call,
+        number: fault.number(),
+        place: fault.place(),
+    }
+}
 
 fn seal(
     heap: Global,
@@ -24,10 +36,7 @@ fn seal(
 {
     let mut count = counter;
     Ok(packets::seal(heap, to, &mut count, segment, area)?.map_or_else(
-        |fault| Answer::Refused {
-            call: Call::Seal,
-            fault,
-        },
+        |fault| refused(Call::Seal, fault),
         |packet| Answer::Sealed { count, packet },
     ))
 }
@@ -47,10 +56,7 @@ fn unseal(
             place: opened.place,
             segment: Vec::from_slice(heap, opened.bytes)?,
         }),
-        Err(fault) => Ok(Answer::Refused {
-            call: Call::Unseal,
-            fault,
-        }),
+        Err(fault) => Ok(refused(Call::Unseal, fault)),
     }
 }
 

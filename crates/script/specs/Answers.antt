@@ -1,6 +1,5 @@
 -- What is printed of each answer.
 use Rattle.std.specs.Prelude.{ℕ, List, ◌++◌, length, vec_items, codes, decimal}
-use Rattle.esp.specs.Faults.{number_of, place_of}
 use Rattle.script.specs.Hex.{hex_of}
 use Rattle.script.specs.declared.answer.Answer.{Answer}
 use Rattle.script.specs.declared.answer.Answer.TheVariants.{BadLine, EmptyWindow, Opened, Refused, Sealed, Tagged}
@@ -43,5 +42,5 @@ text_of (Tagged tag) = tag_text tag
 text_of (Sealed count packet) = seal_text count (vec_items packet)
 text_of EmptyWindow = window_text
 text_of (Opened place segment) = unseal_text place (vec_items segment)
-text_of (Refused call fault) = fault_text call (number_of fault) (place_of fault)
+text_of (Refused call number place) = fault_text call number place
 text_of (BadLine n) = bad_text n

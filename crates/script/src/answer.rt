@@ -1,9 +1,8 @@
 // Printing an answer.
 ghost use Rattle.script.specs.Answers.{name_of, text_of};
-ghost use Rattle.std.specs.Prelude.{Some};
+ghost use Rattle.std.specs.Prelude.{◌≡◌, Some};
 
 use crate::hex::Hex;
-use esp::Fault;
 use integrity::Tag;
 use std::fmt;
 
@@ -14,26 +13,47 @@ pub enum Call {
     Unseal,
 }
 
-// The first word of the call's line.
+impl Call {
+    // The first word of the call's line. It stands beside `Display`, which can fail, and cannot.
+    pub fn name(self) -> &'static str
+        ensures { result.now ≡ name_of self }
+    {
+        match self {
+            Call::Seal => "seal",
+            Call::Unseal => "unseal",
+        }
+    }
+}
+
 impl fmt::Display for Call {
     ghost output = { λ c. Some (name_of c) };
 
     fn fmt<W: fmt::Write>(&self, f: &mut fmt::Formatter<W>) -> fmt::Result {
-        f.write_str(match self {
-            Call::Seal => "seal",
-            Call::Unseal => "unseal",
-        })
+        f.write_str(self.name())
     }
 }
 
 // What a line of a script is answered.
 #[derive(Drop)]
 pub enum Answer {
-    Tagged { tag: Tag },
-    Sealed { count: u32, packet: Vec<u8> },
+    Tagged {
+        tag: Tag,
+    },
+    Sealed {
+        count: u32,
+        packet: Vec<u8>,
+    },
     EmptyWindow,
-    Opened { place: usize, segment: Vec<u8> },
-    Refused { call: Call, fault: Fault },
+    Opened {
+        place: usize,
+        segment: Vec<u8>,
+    },
+    // A fault by its number and place: whatever refuses can be printed, not the packet layer alone.
+    Refused {
+        call: Call,
+        number: u8,
+        place: usize,
+    },
     // The line with this number, counted from 1, is not of the grammar.
     BadLine(u64),
 }
@@ -54,11 +74,11 @@ impl fmt::Display for Answer {
                 let segment = Hex(segment.as_slice());
                 write!(f, "unseal place={place} segment={segment}")
             }
-            Answer::Refused { call, fault } => {
-                let number = fault.number();
-                let place = fault.place();
-                write!(f, "{call} fault={number} place={place}")
-            }
+            Answer::Refused {
+                call,
+                number,
+                place,
+            } => write!(f, "{call} fault={number} place={place}"),
             Answer::BadLine(n) => write!(f, "bad line {n}"),
         }
     }

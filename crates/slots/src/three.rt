@@ -13,11 +13,12 @@ pub struct Slots<S> {
     pub registration: Option<S>,
 }
 
-// What stands in a slot at the second t: a set is gone from its expiry on.
-fn live_at<S: Expiring + Copy>(slot: Option<S>, t: u32) -> Option<S>
-    ensures { result ≡ live S.Expiring.end t slot }
+// Leaves in a slot what stands there at the second t: a set is gone from its expiry on. Where it stands it is not moved, as a tick
+// asks every slot of the table.
+fn keep_live<S: Expiring + Copy>(slot: &mut Option<S>, t: u32)
+    ensures { slot.new ≡ live S.Expiring.end t slot.old }
 {
-    slot.filter(|set| set.expiry() > u64::from(t))
+    slot.take_if(|set| set.expiry() <= u64::from(t));
 }
 
 // The later of an expiry and a slot's.
@@ -63,9 +64,9 @@ impl<S: Expiring + Copy> Slots<S> {
     pub fn expire(&mut self, t: u32)
         ensures { self.exit.now ≡ expired S.Expiring.end t self.entry.now }
     {
-        self.old = live_at(self.old, t);
-        self.current = live_at(self.current, t);
-        self.registration = live_at(self.registration, t);
+        keep_live(&mut self.old, t);
+        keep_live(&mut self.current, t);
+        keep_live(&mut self.registration, t);
     }
 
     // The latest of an expiry and those in the slots that carry traffic.

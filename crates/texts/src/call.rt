@@ -100,7 +100,7 @@ impl fmt::Display for CallAnswer {
             }
             CallAnswer::Refreshed { expiry } => write!(f, "refresh expiry={expiry}"),
             CallAnswer::Deregistered { remaining } => write!(f, "deregister remaining={remaining}"),
-            // Printed as crate script prints a refusal, whose faults are another type.
+            // Printed as crate script prints a refusal, whose calls are another type.
             CallAnswer::Refused { call, fault } => {
                 let number = fault.number();
                 let place = fault.place();

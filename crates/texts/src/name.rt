@@ -1,6 +1,6 @@
 // The calls by the first word of their lines.
 ghost use Rattle.texts.specs.Names.{named, name_of};
-ghost use Rattle.std.specs.Prelude.{Some};
+ghost use Rattle.std.specs.Prelude.{◌≡◌, Some};
 
 use script::Field;
 use std::fmt;
@@ -18,12 +18,12 @@ pub enum CallName {
     Deregister,
 }
 
-// The first word of the call's line.
-impl fmt::Display for CallName {
-    ghost output = { λ c. Some (name_of c) };
-
-    fn fmt<W: fmt::Write>(&self, f: &mut fmt::Formatter<W>) -> fmt::Result {
-        f.write_str(match self {
+impl CallName {
+    // The first word of the call's line. It stands beside `Display`, which can fail, and cannot.
+    pub fn name(self) -> &'static str
+        ensures { result.now ≡ name_of self }
+    {
+        match self {
             CallName::Open => "open",
             CallName::Tick => "tick",
             CallName::Register => "register",
@@ -33,7 +33,15 @@ impl fmt::Display for CallName {
             CallName::Send => "send",
             CallName::Refresh => "refresh",
             CallName::Deregister => "deregister",
-        })
+        }
+    }
+}
+
+impl fmt::Display for CallName {
+    ghost output = { λ c. Some (name_of c) };
+
+    fn fmt<W: fmt::Write>(&self, f: &mut fmt::Formatter<W>) -> fmt::Result {
+        f.write_str(self.name())
     }
 }
 
