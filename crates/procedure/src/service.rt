@@ -46,7 +46,7 @@ impl Preference {
         }
     }
 
-    // The first that an offer has, of a proxy's own list: without one there is none.
+    // The first of a proxy's own list that an offer has; none where the proxy has no list.
     pub fn common(list: Option<Preference>, offer: &Offer) -> Option<Algorithm>
         ensures { result ≡ common list offer.now }
     {

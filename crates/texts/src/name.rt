@@ -19,7 +19,7 @@ pub enum CallName {
 }
 
 impl CallName {
-    // The first word of the call's line. It stands beside `Display`, which can fail, and cannot.
+    // The first word of the call's line. `Display` prints it, and can fail; this cannot.
     pub fn name(self) -> &'static str
         ensures { result.now ≡ name_of self }
     {
